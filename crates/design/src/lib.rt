@@ -3,6 +3,7 @@
 mod fault;
 mod mark;
 mod price;
+
 pub use fault::JudgeFault;
 pub use fault::Layer;
 pub use mark::all_named;

@@ -16,7 +16,7 @@ module _ {V : Type 0} (s : Places) (place : V → ℕ) (at : ℕ → V) (joined 
   start-out u [] = sym (l .comm u (at 0) ∙ l .neutral u)
   start-out u (v ∷ vs) =
       start-out (joined u v) vs ∙ l .assoc u v (joined-all joined (at 0) vs)
-        ∙ ap (joined u) (sym (ap (λ (x : V). joined-all joined x vs) (l .neutral v) ∙ start-out v vs))
+      ∙ ap (joined u) (sym (ap (λ (x : V). joined-all joined x vs) (l .neutral v) ∙ start-out v vs))
 
   cons-is : (v : V) (vs : List V) → joined-all joined (at 0) (v ∷ vs) ≡ joined v (joined-all joined (at 0) vs)
   unfolding joined-all
@@ -26,7 +26,7 @@ module _ {V : Type 0} (s : Places) (place : V → ℕ) (at : ℕ → V) (joined 
   reordered same = refl
   reordered (swapped {u} {v} {vs}) =
       cons-is u (v ∷ vs) ∙ ap (joined u) (cons-is v vs) ∙ sym (l .assoc u v _) ∙ ap (λ (x : V). joined x (joined-all joined (at 0) vs)) (l .comm u v)
-        ∙ l .assoc v u _ ∙ sym (cons-is v (u ∷ vs) ∙ ap (joined v) (cons-is u vs))
+      ∙ l .assoc v u _ ∙ sym (cons-is v (u ∷ vs) ∙ ap (joined v) (cons-is u vs))
   reordered (behind {v} {us} {vs} r) = cons-is v us ∙ ap (joined v) (reordered r) ∙ sym (cons-is v vs)
   reordered (further p q) = reordered p ∙ reordered q
 
@@ -35,7 +35,7 @@ module _ {V : Type 0} (s : Places) (place : V → ℕ) (at : ℕ → V) (joined 
   grouped [] ws = sym (l .neutral (joined-all joined (at 0) ws))
   grouped (u ∷ us) ws =
       cons-is u (us ++ ws) ∙ ap (joined u) (grouped us ws) ∙ sym (l .assoc u _ _)
-        ∙ ap (λ (x : V). joined x (joined-all joined (at 0) ws)) (sym (cons-is u us))
+      ∙ ap (λ (x : V). joined x (joined-all joined (at 0) ws)) (sym (cons-is u us))
 
   left-least : (u v : V) → place u ≤ place (joined u v)
   left-least u v =

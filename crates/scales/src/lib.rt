@@ -1,6 +1,7 @@
 // Scales: the kinds of cost. A scale has values in rising order, numbered by their places from 0 to
 // its top, and joins two values into one. Everything above is one text for every scale.
 mod values;
+
 ghost use mathlib.Core.Path.{_≡_};
 ghost use Prim.Native.Nat.{ℕ};
 ghost use Rattle.scales.specs.Laws.{Places, Laws};
@@ -71,7 +72,9 @@ pub impl Scale for Hours as HoursScale {
     }
 
     fn from_place(p: u8) -> QuarterHours {
-        QuarterHours { count: p.min(Self::TOP) }
+        QuarterHours {
+            count: p.min(Self::TOP),
+        }
     }
 
     fn place_of(v: QuarterHours) -> u8 {
@@ -79,7 +82,9 @@ pub impl Scale for Hours as HoursScale {
     }
 
     fn join(u: QuarterHours, v: QuarterHours) -> QuarterHours {
-        QuarterHours { count: (u.count + v.count).min(Self::TOP) }
+        QuarterHours {
+            count: (u.count + v.count).min(Self::TOP),
+        }
     }
 }
 
@@ -110,7 +115,9 @@ pub impl Scale for Needles as NeedlesScale {
     }
 
     fn from_place(p: u8) -> ShogNeedles {
-        ShogNeedles { count: p.min(Self::TOP) }
+        ShogNeedles {
+            count: p.min(Self::TOP),
+        }
     }
 
     fn place_of(v: ShogNeedles) -> u8 {
@@ -118,7 +125,9 @@ pub impl Scale for Needles as NeedlesScale {
     }
 
     fn join(u: ShogNeedles, v: ShogNeedles) -> ShogNeedles {
-        ShogNeedles { count: u.count.max(v.count) }
+        ShogNeedles {
+            count: u.count.max(v.count),
+        }
     }
 }
 

@@ -12,10 +12,10 @@ pub loop-v-again : need.loop-v-again
 loop-v-again g c =
     let s = g .S·Scale in
     c .join-sum .ensures ∙ ap (λ x. s .joined x (c .v-item .result)) (c .loop-v .inv)
-      ∙ sym (all-next (s .places) (s .place) (s .at) (s .joined) (s .laws) (c .args .values .now) (c .loop-v .v-index) (c .v-item .result) (c .v-item .is) (c .loop-v-test .taken))
+    ∙ sym (all-next (s .places) (s .place) (s .at) (s .joined) (s .laws) (c .args .values .now) (c .loop-v .v-index) (c .v-item .result) (c .v-item .is) (c .loop-v-test .taken))
 
 pub returns : need.returns
 returns g c =
     let s = g .S·Scale in
     joined-many (s .places) (s .place) (s .at) (s .joined) (s .laws) (c .args .values .now) (c .loop-v .sum)
-      (c .loop-v .inv ∙ ap (joined-all (s .joined) (s .at 0)) (take-all (c .loop-v .v-index) (c .args .values .now) (c .loop-v-test .left)))
+    (c .loop-v .inv ∙ ap (joined-all (s .joined) (s .at 0)) (take-all (c .loop-v .v-index) (c .args .values .now) (c .loop-v-test .left)))
