@@ -208,3 +208,21 @@ ones-shifted n h =
   where
     split : (a b : ℕ) → 0 < a → (a - 1) * b + b ≡ a * b
     split a b h = let i : (a - 1) + 1 ≡ a = omega arith in let m = add-mul (a - 1) 1 b in ap (λ (x : ℕ). (a - 1) * b + x) (sym (one-mul b)) ∙ sym m ∙ ap (λ (x : ℕ). x * b) i
+
+-- word r is word v without bit j
+abbrev pub Dropped : ℕ → ℕ → ℕ → Type 0
+Dropped v j r = (k : ℕ) → bit r k ≡ (bit v k && not (bit (2 ^ j) k))
+
+pub dropped : (v q j r : ℕ) → q ≡ 2 ^ j → ((k : ℕ) → bit r k ≡ (bit v k && not (bit q k))) → Dropped v j r
+dropped v q j r e b k = b k ∙ ap (λ (n : ℕ). bit v k && not (bit n k)) e
+
+-- a word that lost a bit that it had is smaller
+pub lost : (v j r : ℕ) → Dropped v j r → bit v j ≡ true → r ≤ v → r < v
+lost v j r d e l =
+    let f : bit r j ≡ false = d j ∙ ap (λ (x : Bool). bit v j && not x) (power-same j) ∙ and-false (bit v j) in
+    let n : r ≡ v → ⊥ = λ q. let z : true ≡ false = sym e ∙ ap (λ (x : ℕ). bit x j) (sym q) ∙ f in let y : _≡_ {A = ℕ} 0 1 = cc in omega arith in
+    omega arith
+  where
+    and-false : (x : Bool) → (x && false) ≡ false
+    and-false true = refl
+    and-false false = refl

@@ -38,6 +38,16 @@ pub fn without(word: u64, drop: u64) -> u64
     word ^ (word & drop)
 }
 
+// The word with one of its bits dropped.
+pub fn without_bit(word: u64, k: u32) -> u64
+    requires low { ⌜ k < 64 ⌝ }
+    requires inside { ⌜ bit word k ≡ true ⌝ }
+    ensures bits { λ r. ⌜ ((j : ℕ) → bit r j ≡ (bit word j && not (bit (2 ^ k) j))) ⌝ }
+    ensures less { λ r. ⌜ r < word ⌝ }
+{
+    without(word, 1 << k)
+}
+
 // The word of the lowest n bits.
 pub fn lowest(n: u8) -> u64
     requires { ⌜ 0 < n ⌝ ∗ ⌜ n ≤ 64 ⌝ }

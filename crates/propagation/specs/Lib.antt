@@ -1,0 +1,4 @@
+pub mod Masks
+pub mod Held
+pub mod Narrowing
+pub mod Easing
