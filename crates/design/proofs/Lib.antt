@@ -1,3 +1,4 @@
 pub mod Truth
 pub mod OfMarks
 pub mod OfPrices
+pub mod Totals

@@ -11,8 +11,8 @@ ghost use Rattle.propagation.specs.Masks.{ups-of, downs-of};
 pub struct Rule {
     pub(crate) count: u8,
     pub(crate) marks: [i8; 8],
-    pub(crate) ups: u64,
-    pub(crate) downs: u64,
+    pub ups: u64,
+    pub downs: u64,
     ghost short: { count ≤ 8 },
     ghost named: { all-named 64 (take count marks) ≡ true },
     ghost up_word: { ups ≡ ups-of (take count marks) },
