@@ -39,7 +39,7 @@ objective-below O l τ = joined-below (O .scale) l 0 (counted τ (O .terms)) (om
 beats-dominates : (I : Instance) (σ τ : Assignment) → Beats (image I σ) (image I τ) ↔ Dominates I σ τ
 beats-dominates I σ τ = (λ b. record { first = b .0 .0; second = b .0 .1; less = b .1 }, λ d. ((d .first, d .second), d .less))
 
-module _ (s : Scales) (m : Meaning) (t : Table s m) where
+module _ (s : Scales) (m : Meaning) (t : Table m) where
   -- an assignment that a word gives
   module _ (w : ℕ) (τ : Assignment) (gives : Gives (m .choices) w τ) where
     formula-is : formula-value τ (instance-of s m .formula) ≡ truth-value (meets-all w (m .rules))

@@ -5,15 +5,16 @@ use mathlib.Core.Bool.{Bool, true, false, not, cond, _||_, _&&_}
 use Prim.Native.Nat.{ℕ, zero, suc, _+_, _-_, _<_, min, max}
 use native.Mathlib.Omega.{arith}
 use lib.IntN.{ℤ, pos, negsuc}
-use lib.Dec.{ltb, eqb}
+use lib.Dec.{ltb, leb, eqb}
+use lib.ListN.{length}
 use Rattle.std.proofs.shelf.Tests.{false≢true, ltb-true, leb-true, and-parts}
 use Rattle.scales.specs.Laws.{Places}
 use Rattle.scales.specs.Many.{joined-all}
 use Rattle.bits.specs.Bit.{bit}
 use Rattle.design.specs.Mark.{named, all-named, holds}
 use Rattle.design.specs.Rule.{meets, meets-all}
-use Rattle.design.specs.Cost.{total-from, total, with-price, cost}
-use Rattle.design.specs.Plan.{Rules-kept, Prices-kept}
+use Rattle.design.specs.Cost.{total-from, total, with-price, cost, priced}
+use Rattle.design.specs.Plan.{rules-kept, prices-kept}
 use Rattle.design.specs.declared.price.Price.{Price}
 use Rattle.published.specs.Literature.{Assignment, literal-value, clause-value, formula-value, counted, objective-value}
 use Rattle.published.specs.Reading.{literal-of, formula-of, term-of, objective-of, truth-value}
@@ -67,21 +68,23 @@ module _ (n w : ℕ) (τ : Assignment) (gives : Gives n w τ) where
       let f = clause-met r (p .1) in
       rw (e, f) (or-value (holds w m) (meets w r))
 
-  pub formula-met : (rs : List (List ℤ)) → Rules-kept n rs → formula-value τ (formula-of rs) ≡ truth-value (meets-all w rs)
-  unfolding formula-value meets-all
+  pub formula-met : (rs : List (List ℤ)) → rules-kept n rs ≡ true → formula-value τ (formula-of rs) ≡ truth-value (meets-all w rs)
+  unfolding formula-value meets-all rules-kept
   formula-met [] h = refl
   formula-met (r ∷ rs) h =
-      let e = clause-met r (h .1) in
-      let f = formula-met rs (h .2) in
+      let p = and-parts (leb (length r) 8 && all-named n r) (rules-kept n rs) h in
+      let e = clause-met r (and-parts (leb (length r) 8) (all-named n r) (p .0) .1) in
+      let f = formula-met rs (p .1) in
       rw (e, f) (and-value (meets w r) (meets-all w rs))
 
-  joined-from : (s : Places) (c : ℕ) (ps : List Price) → Prices-kept s n ps → joined-all (s .join) c (counted τ (map term-of ps)) ≡ total-from s (holds w) c ps
-  unfolding joined-all counted total-from
+  joined-from : (s : Places) (c : ℕ) (ps : List Price) → prices-kept n ps ≡ true → joined-all (s .join) c (counted τ (map term-of ps)) ≡ total-from s (holds w) c ps
+  unfolding joined-all counted total-from prices-kept
   joined-from s c [] h = refl
   joined-from s c (p ∷ ps) h =
-      let e = ap (λ (x : ℕ). eqb x 1) (literal-holds (p .mark) (h .0)) ∙ is-true (holds w (p .mark)) in
-      rw e (joined-if (s .join) c (holds w (p .mark)) (p .place) (counted τ (map term-of ps)) ∙ joined-from s (with-price s (holds w) c p) ps (h .4))
+      let k = and-parts (named n (p .mark) && not (priced ps (p .mark))) (prices-kept n ps) h in
+      let e = ap (λ (x : ℕ). eqb x 1) (literal-holds (p .mark) (and-parts (named n (p .mark)) (not (priced ps (p .mark))) (k .0) .0)) ∙ is-true (holds w (p .mark)) in
+      rw e (joined-if (s .join) c (holds w (p .mark)) (p .place) (counted τ (map term-of ps)) ∙ joined-from s (with-price s (holds w) c p) ps (k .1))
 
-  pub objective-cost : (s : Places) (ps : List Price) → Prices-kept s n ps → objective-value τ (objective-of s ps) ≡ cost s ps w
+  pub objective-cost : (s : Places) (ps : List Price) → prices-kept n ps ≡ true → objective-value τ (objective-of s ps) ≡ cost s ps w
   unfolding total
   objective-cost s ps h = joined-from s 0 ps h
