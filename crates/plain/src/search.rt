@@ -51,7 +51,12 @@ impl<A: Scale, B: Scale> Plain<A, B> {
         }
         let (ups_a, downs_a) = self.prices_a.priced_choices();
         let (ups_b, downs_b) = self.prices_b.priced_choices();
-        let eased = ease(self.rules.as_slice(), ups_a | ups_b, downs_a | downs_b, here);
+        let eased = ease(
+            self.rules.as_slice(),
+            ups_a | ups_b,
+            downs_a | downs_b,
+            here,
+        );
         if eased.up != here.up || eased.down != here.down {
             return self.search(a, b, eased);
         }

@@ -13,6 +13,6 @@ returns g c =
     let j = c .args .self .now in
     let e : bitAnd (c .args .word) (c .lowest .result) ≡ c .args .word % 2 ^ (j .sizes .choices) = ap (bitAnd (c .args .word)) (c .lowest .ensures) ∙ and-mask (c .args .word) (j .sizes .choices) in
     record {
-      first = c .cost .ensures ∙ ap (cost (g .A·Scale .places) (vec-items (j .«prices_a» .entries))) e;
-      second = c .cost-2 .ensures ∙ ap (cost (g .B·Scale .places) (vec-items (j .«prices_b» .entries))) e;
+      first = let h = ap (cost (g .A·Scale .places) (vec-items (j .«prices_a» .entries))) e in cc;
+      second = let h = ap (cost (g .B·Scale .places) (vec-items (j .«prices_b» .entries))) e in cc;
     }
