@@ -11,13 +11,13 @@ use Rattle.std.proofs.shelf.Bits.{leading-top, or-lt}
 use Rattle.std.proofs.shelf.Lists.{take-more}
 use Rattle.std.proofs.shelf.Tests.{or-cases, or-left, or-right, or-parts, not-true, not-from-false}
 use Rattle.bits.specs.Bit.{bit}
-use Rattle.bits.proofs.OfBits.{bit-and, bit-or, bit-drop, top-inside}
+use Rattle.bits.proofs.OfBits.{bit-and, bit-or, bit-drop, top-inside, zero-bit}
 use Rattle.design.specs.Rule.{meets-all}
 use Rattle.design.proofs.Truth.{never, tell, both, left-of, right-of}
 use Rattle.propagation.specs.declared.rule.Rule.{Rule}
 use Rattle.propagation.specs.declared.partial.Partial.{Partial}
 use Rattle.propagation.specs.Held.{marks-of, rules-of, Met}
-use Rattle.propagation.specs.Narrowing.{Agrees, Hit, Surely-met}
+use Rattle.propagation.specs.Narrowing.{Agrees, Hit, Sure-mark, Surely-met}
 use Rattle.propagation.specs.Easing.{Inside, Asked, No-dearer, Moved, Eased}
 use Rattle.propagation.proofs.Narrows.{taken-in, left-in}
 use Rattle.propagation.proofs.Hits.{rule-hit, hit-rule}
@@ -28,26 +28,26 @@ some-bit x h n =
     let l = leading-top 64 x (omega arith) h in
     (63 - _, omega arith, top-inside x _ (l .0) (l .1) (l .2) (l .3))
 
--- a mark of the rule that cannot be false any more
-pub met-by-take : (r : Rule) (p : Partial) (x : ℕ) → x < 2 ^ 64 → ((k : ℕ) → bit x k ≡ (bit (r .ups) k && not (bit (p .down) k))) → (x ≡ 0 → ⊥) → Surely-met r p
-met-by-take r p x h b n w a =
-    let k = some-bit x h n in
+-- a word that is another without the bits of a third, and is not 0, has a bit of the one and not of the other
+pub some-left : (v x r : ℕ) → r < 2 ^ 64 → ((k : ℕ) → bit r k ≡ (bit v k && not (bit x k))) → (r ≡ 0 → ⊥) → (k : ℕ) × (k < 64) × (bit v k ≡ true) × (bit x k ≡ false)
+some-left v x r h b n =
+    let k = some-bit r h n in
     let t = sym (b (k .0)) ∙ k .2 in
-    (k .0, k .1, at (k .0) (k .1) (left-of _ _ t) (not-true _ (right-of (bit (r .ups) (k .0)) _ t)) (tell (bit w (k .0))))
-  where
-    at : (k : ℕ) → k < 64 → bit (r .ups) k ≡ true → bit (p .down) k ≡ false → (bit w k ≡ true) ⊎ (bit w k ≡ false) → cond (bit w k) (bit (r .ups) k) (bit (r .downs) k) ≡ true
-    at k i u d (inl e) = rw e u
-    at k i u d (inr e) = absurd (never (sym (left-in a i e) ∙ d))
+    (k .0, k .1, left-of _ _ t, not-true _ (right-of (bit v (k .0)) _ t))
 
-pub met-by-leave : (r : Rule) (p : Partial) (x : ℕ) → x < 2 ^ 64 → ((k : ℕ) → bit x k ≡ (bit (r .downs) k && not (bit (p .up) k))) → (x ≡ 0 → ⊥) → Surely-met r p
-met-by-leave r p x h b n w a =
-    let k = some-bit x h n in
-    let t = sym (b (k .0)) ∙ k .2 in
-    (k .0, k .1, at (k .0) (k .1) (left-of _ _ t) (not-true _ (right-of (bit (r .downs) (k .0)) _ t)) (tell (bit w (k .0))))
+pub none-left : (v x r : ℕ) → ((k : ℕ) → bit r k ≡ (bit v k && not (bit x k))) → r ≡ 0 → (k : ℕ) → bit v k ≡ true → bit x k ≡ false → ⊥
+none-left v x r b z k u d = never (sym (b k ∙ both _ _ u (not-from-false _ d)) ∙ ap (λ (y : ℕ). bit y k) z ∙ zero-bit k)
+
+-- a rule with such a mark is met by every setting that agrees
+pub surely-met : (r : Rule) (p : Partial) → Sure-mark r p → Surely-met r p
+surely-met r p s w a = (s .0, s .1, by (s .2) (tell (bit w (s .0))))
   where
-    at : (k : ℕ) → k < 64 → bit (r .downs) k ≡ true → bit (p .up) k ≡ false → (bit w k ≡ true) ⊎ (bit w k ≡ false) → cond (bit w k) (bit (r .ups) k) (bit (r .downs) k) ≡ true
-    at k i d u (inl e) = absurd (never (sym (taken-in a i e) ∙ u))
-    at k i d u (inr e) = rw e d
+    by : ((bit (r .ups) (s .0) ≡ true) × (bit (p .down) (s .0) ≡ false)) ⊎ ((bit (r .downs) (s .0) ≡ true) × (bit (p .up) (s .0) ≡ false))
+        → (bit w (s .0) ≡ true) ⊎ (bit w (s .0) ≡ false) → cond (bit w (s .0)) (bit (r .ups) (s .0)) (bit (r .downs) (s .0)) ≡ true
+    by (inl t) (inl e) = rw e (t .0)
+    by (inl t) (inr e) = absurd (never (sym (left-in a (s .1) e) ∙ t .1))
+    by (inr t) (inl e) = absurd (never (sym (taken-in a (s .1) e) ∙ t .1))
+    by (inr t) (inr e) = rw e (t .0)
 
 pub inside-or-left : (a b c : ℕ) → Inside a b → Inside a (bitOr b c)
 inside-or-left a b c i k t = bit-or b c k ∙ or-left _ _ (i k t)

@@ -3,7 +3,7 @@
 use mathlib.Core.Path.{_≡_}
 use mathlib.Core.List.{List, [], _∷_}
 use mathlib.Core.Logic.{_⊎_}
-use mathlib.Core.Bool.{Bool, true, cond}
+use mathlib.Core.Bool.{Bool, true, false, cond}
 use Prim.Native.Nat.{ℕ, _≤_, _<_, _+_, _^_}
 use lib.Bits.{bitAnd}
 use Rattle.std.specs.declared.option.Option.{Option}
@@ -50,6 +50,10 @@ abbrev pub Swept : List Rule → Partial → Option Partial → Type 0
 Swept rs p None = Nowhere (Met rs) (p .up) (p .down)
 Swept rs p (Some q) =
     Narrow (Met rs) (p .up) (p .down) (q .up) (q .down) × (q .up ≡ p .up → q .down ≡ p .down → All-alive rs (p .up) (p .down))
+
+-- a mark of the rule cannot be false any more
+abbrev pub Sure-mark : Rule → Partial → Type 0
+Sure-mark r p = (k : ℕ) × (k < 64) × (((bit (r .ups) k ≡ true) × (bit (p .down) k ≡ false)) ⊎ ((bit (r .downs) k ≡ true) × (bit (p .up) k ≡ false)))
 
 -- every setting that agrees has a true mark of the rule
 abbrev pub Surely-met : Rule → Partial → Type 0

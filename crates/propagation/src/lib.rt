@@ -11,7 +11,8 @@ ghost use lib.ListN.{length};
 ghost use Rattle.design.specs.Mark.{named, all-named};
 ghost use Rattle.propagation.specs.Masks.{up-bit, down-bit};
 ghost use Rattle.propagation.specs.Held.{marks-of};
-ghost use Rattle.propagation.specs.Narrowing.{Applied, Swept, Surely-met};
+ghost use Rattle.propagation.specs.Narrowing.{Applied, Swept, Sure-mark};
+ghost use Rattle.std.specs.Orderings.{Decides};
 ghost use Rattle.propagation.specs.Easing.{Asked, Eased};
 use bits::highest_bit;
 use bits::without;
@@ -60,7 +61,7 @@ impl Rule {
 
     // Whether a mark of the rule is true whatever the open choices are.
     pub fn is_met(&self, at: Partial) -> bool
-        ensures { λ r. ⌜ (r ≡ true → Surely-met (now (self .entry)) at) ⌝ }
+        ensures { λ r. ⌜ Decides r (Sure-mark (now (self .entry)) at) ⌝ }
     {
         without(self.ups, at.down) != 0 || without(self.downs, at.up) != 0
     }

@@ -6,7 +6,7 @@ use lib.ListN.{take}
 use Rattle.std.proofs.shelf.Lists.{take-all}
 use Rattle.propagation.specs.declared.rule.Rule.{Rule}
 use Rattle.propagation.specs.Easing.{Asked}
-use Rattle.propagation.proofs.Eases.{asked-none, asked-met, asked-open}
+use Rattle.propagation.proofs.Eases.{asked-none, asked-met, asked-open, surely-met}
 use Rattle.propagation.proofs.asked.Needs as need
 use Rattle.propagation.proofs.asked.Needs.{then-not-is-met, else-not-is-met}
 
@@ -24,7 +24,7 @@ loop-rule-again c =
       | then-not-is-met w ↦ subst (λ (x : ℕ). P x (c .if-not-is-met .downs)) (sym (w .ups-is)) (subst (λ (x : ℕ). P (bitOr (c .loop-rule .ups) (r .ups)) x) (sym (w .downs-is))
           (asked-open rs i r (c .args .at) (c .loop-rule .ups) (c .loop-rule .downs) (c .rule-item .is) (c .loop-rule-test .taken) at))
       | else-not-is-met w ↦ subst (λ (x : ℕ). P x (c .if-not-is-met .downs)) (sym (w .ups-is)) (subst (λ (x : ℕ). P (c .loop-rule .ups) x) (sym (w .downs-is))
-          (asked-met rs i r (c .args .at) (c .loop-rule .ups) (c .loop-rule .downs) (c .rule-item .is) (c .loop-rule-test .taken) at (c .is-met .ensures (w .if-not-is-met .left))))
+          (asked-met rs i r (c .args .at) (c .loop-rule .ups) (c .loop-rule .downs) (c .rule-item .is) (c .loop-rule-test .taken) at (surely-met r (c .args .at) (c .is-met .ensures .0 (w .if-not-is-met .left)))))
     ]
 
 pub returns : need.returns
