@@ -3,7 +3,7 @@ use mathlib.Core.Path.{_≡_, refl, sym, _∙_, ap, subst}
 use mathlib.Core.Bool.{Bool, true, false, not, _&&_, _||_}
 use mathlib.Core.Logic.{_⊎_, inl, inr}
 use native.Mathlib.Omega.{arith}
-use native.Mathlib.Nat.{add-mul, one-mul}
+use native.Mathlib.Nat.{add-mul, one-mul, mod-eq-of-lt}
 use lib.Bits.{bitAnd, bitOr, bitXor, and-step, or-step, xor-step, differ, xor-lt, and-le-l, and-le-r}
 use lib.Dec.{eqb}
 use Rattle.std.proofs.shelf.Bits.{and-mask, and-shr, or-shr, xor-shr, one-shl, pow-pos, pow-add, shl-shr, shr-shr, mod-below, pow-below, div-below, le-div, leading-top}
@@ -226,3 +226,16 @@ lost v j r d e l =
     and-false : (x : Bool) → (x && false) ≡ false
     and-false true = refl
     and-false false = refl
+
+right-true : (x y : Bool) → (x && y) ≡ true → y ≡ true
+right-true true y t = t
+right-true false y t = let z : false ≡ true = t in let e : _≡_ {A = ℕ} 0 1 = cc in absurd (omega arith)
+
+-- a bit of a word below 2 ^ n is one of the lowest n
+pub low-inside : (n w k : ℕ) → w < 2 ^ n → bit w k ≡ true → bit (2 ^ n - 1) k ≡ true
+low-inside n w k l e =
+    let m : bitAnd w (2 ^ n - 1) ≡ w = and-mask w n ∙ mod-eq-of-lt l in
+    right-true (bit w k) _ (sym (bit-and w (2 ^ n - 1) k) ∙ ap (λ (x : ℕ). bit x k) m ∙ e)
+
+pub inside-ones : (n k : ℕ) → k < n → bit (2 ^ n - 1) k ≡ true
+inside-ones n k h = low-inside n (2 ^ k) k (pow-below k n h) (power-same k)

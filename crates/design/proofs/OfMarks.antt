@@ -7,6 +7,8 @@ use native.Mathlib.Omega.{arith}
 use lib.IntN.{ℤ, pos, negsuc, natAbs}
 use lib.ListN.{length, getD}
 use lib.Dec.{ltb, leb}
+use mir.Val.{SFits}
+use mir.Syntax.{w8}
 use borrow.Author.Tests.{ltb-true, leb-true, lt-ltb, le-leb}
 use Rattle.std.proofs.shelf.Lists.{nil-from-length}
 use Rattle.std.proofs.shelf.Parts.{first-rest}
@@ -45,3 +47,8 @@ bit-below n (negsuc k) w = ltb-true k n w
 pub abs-bit : (m : ℤ) → named 64 m ≡ true → natAbs m ≡ bit-of m + 1
 abs-bit (pos c) w = let k = ltb-true 0 c (left-of _ _ w) in omega arith
 abs-bit (negsuc k) w = omega arith
+
+-- a mark of the choices 1 to 64 is a signed byte
+pub named-fits : (m : ℤ) → named 64 m ≡ true → SFits w8 m
+named-fits (pos c) w = let l = leb-true c 64 (right-of (ltb 0 c) _ w) in record { sfits = omega arith }
+named-fits (negsuc k) w = let l = ltb-true k 64 w in record { sfits = omega arith }

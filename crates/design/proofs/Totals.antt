@@ -63,7 +63,7 @@ module _ (s : Places) (l : Place-laws s) where
   wider-from t t′ [] w c d h k k′ = h
   wider-from t t′ (p ∷ ps) w c d h k k′ =
       wider-from t t′ ps (w .1) (with-price s t c p) (with-price s t′ d p)
-        (one-wider c d (p .place) (t (p .mark)) (t′ (p .mark)) (w .0) h k k′) (stays c (p .place) (t (p .mark)) k) (stays d (p .place) (t′ (p .mark)) k′)
+      (one-wider c d (p .place) (t (p .mark)) (t′ (p .mark)) (w .0) h k k′) (stays c (p .place) (t (p .mark)) k) (stays d (p .place) (t′ (p .mark)) k′)
 
   -- more marks that pass make a total no less
   pub total-wider : (t t′ : ℤ → Bool) (ps : List Price) → Wider ps t t′ → total s t ps ≤ total s t′ ps
@@ -83,7 +83,7 @@ module _ (s : Places) (l : Place-laws s) where
   push t t′ x [] w c d h k = k
   push t t′ x (p ∷ ps) w c d h k =
       push t t′ x ps (w .1) (with-price s t c p) (with-price s t′ d p) (stays c (p .place) (t (p .mark)) h)
-        (one-push c x d (p .place) (t (p .mark)) (t′ (p .mark)) (w .0) h k)
+      (one-push c x d (p .place) (t (p .mark)) (t′ (p .mark)) (w .0) h k)
 
   insert : (t t′ : ℤ → Bool) (m : ℤ) → t m ≡ false → t′ m ≡ true → (x : ℕ) (ps : List Price) → Wider ps t t′ → (c d : ℕ) → Offered ps m x → c ≤ d → c ≤ s .top → d ≤ s .top
       → s .join (total-from s t c ps) x ≤ total-from s t′ d ps
@@ -91,15 +91,15 @@ module _ (s : Places) (l : Place-laws s) where
   insert t t′ m f g x [] w c d o h k k′ = let e = ap (s .join c) o in let n = l .none c k in omega arith
   insert t t′ m f g x (p ∷ ps) w c d (inr o) h k k′ =
       insert t t′ m f g x ps (w .1) (with-price s t c p) (with-price s t′ d p) o
-        (one-wider c d (p .place) (t (p .mark)) (t′ (p .mark)) (w .0) h k k′) (stays c (p .place) (t (p .mark)) k) (stays d (p .place) (t′ (p .mark)) k′)
+      (one-wider c d (p .place) (t (p .mark)) (t′ (p .mark)) (w .0) h k k′) (stays c (p .place) (t (p .mark)) k) (stays d (p .place) (t′ (p .mark)) k′)
   insert t t′ m f g x (p ∷ ps) w c d (inl o) h k k′ =
       push t t′ x ps (w .1) (with-price s t c p) (with-price s t′ d p) (stays c (p .place) (t (p .mark)) k)
-        (let e : with-price s t c p ≡ c = ap (λ (b : Bool). cond b (s .join c (p .place)) c) (ap t (o .0) ∙ f) in
-         let e′ : with-price s t′ d p ≡ s .join d (p .place) = ap (λ (b : Bool). cond b (s .join d (p .place)) d) (ap t′ (o .0) ∙ g) in
-         let e₂ : s .join (with-price s t c p) x ≡ s .join c x = ap (λ (n : ℕ). s .join n x) e in
-         let a = l .mono c d x h in
-         let b = l .more d x (p .place) (o .1) in
-         omega arith)
+      (let e : with-price s t c p ≡ c = ap (λ (b : Bool). cond b (s .join c (p .place)) c) (ap t (o .0) ∙ f) in
+      let e′ : with-price s t′ d p ≡ s .join d (p .place) = ap (λ (b : Bool). cond b (s .join d (p .place)) d) (ap t′ (o .0) ∙ g) in
+      let e₂ : s .join (with-price s t c p) x ≡ s .join c x = ap (λ (n : ℕ). s .join n x) e in
+      let a = l .mono c d x h in
+      let b = l .more d x (p .place) (o .1) in
+      omega arith)
 
   -- a mark that joins those that pass brings its price
   pub total-insert : (t t′ : ℤ → Bool) (ps : List Price) → Wider ps t t′ → (m : ℤ) → t m ≡ false → t′ m ≡ true → (x : ℕ) → Offered ps m x → s .join (total s t ps) x ≤ total s t′ ps

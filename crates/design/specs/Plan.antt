@@ -2,9 +2,10 @@
 use mathlib.Core.Path.{_≡_}
 use mathlib.Core.List.{List, [], _∷_}
 use mathlib.Core.Logic.{_⊎_}
-use mathlib.Core.Bool.{Bool, true, false}
+use mathlib.Core.Bool.{Bool, true, not, _&&_}
 use Prim.Native.Nat.{ℕ, _≤_, _<_, _^_}
 use lib.IntN.{ℤ}
+use lib.Dec.{leb}
 use lib.ListN.{length}
 use Rattle.std.specs.declared.option.Option.{Option}
 use Rattle.std.specs.declared.option.Option.the-variants.{Some, None}
@@ -64,28 +65,26 @@ abbrev pub Beats : ℕ × ℕ → ℕ × ℕ → Type 0
 Beats p q = Covers p q × ((p .0 < q .0) ⊎ (p .1 < q .1))
 
 -- each rule has at most 8 marks, all of them of the choices 1 to n
-abbrev pub Rules-kept : ℕ → List (List ℤ) → Type 0
-Rules-kept n [] = Unit {0}
-Rules-kept n (r ∷ rs) = (length r ≤ 8) × (all-named n r ≡ true) × Rules-kept n rs
+unfoldable pub rules-kept : ℕ → List (List ℤ) → Bool
+rules-kept n [] = true
+rules-kept n (r ∷ rs) = (leb (length r) 8 && all-named n r) && rules-kept n rs
 
--- prices of the choices 1 to n, from 1 to the top, one for a mark
-abbrev pub Prices-kept : Places → ℕ → List Price → Type 0
-Prices-kept s n [] = Unit {0}
-Prices-kept s n (p ∷ ps) = (named n (p .mark) ≡ true) × (1 ≤ p .place) × (p .place ≤ s .top) × (priced ps (p .mark) ≡ false) × Prices-kept s n ps
+-- the prices are of the choices 1 to n, one for a mark
+unfoldable pub prices-kept : ℕ → List Price → Bool
+prices-kept n [] = true
+prices-kept n (p ∷ ps) = (named n (p .mark) && not (priced ps (p .mark))) && prices-kept n ps
 
 -- what holds of the table that a judge keeps
-pub record Table (s : Scales) (m : Meaning) : Type 0 where
+pub record Table (m : Meaning) : Type 0 where
   pub some-choice : 1 ≤ m .choices
   pub few-choices : m .choices ≤ 64
   pub some-prices : 1 ≤ m .price-room
   pub few-prices : m .price-room ≤ 64
   pub some-rules : 1 ≤ m .rule-room
   pub few-rules : m .rule-room ≤ 1024
-  pub kept-rules : Rules-kept (m .choices) (m .rules)
-  pub kept-a : Prices-kept (s .a) (m .choices) (m .prices-a)
-  pub kept-b : Prices-kept (s .b) (m .choices) (m .prices-b)
+  pub kept-rules : rules-kept (m .choices) (m .rules) ≡ true
+  pub kept-a : prices-kept (m .choices) (m .prices-a) ≡ true
+  pub kept-b : prices-kept (m .choices) (m .prices-b) ≡ true
   pub rules-fit : units-used (m .rules) ≤ m .rule-room
   pub a-fits : length (m .prices-a) ≤ m .price-room
   pub b-fits : length (m .prices-b) ≤ m .price-room
-  pub limited-a : m .limit-a ≤ s .a .top
-  pub limited-b : m .limit-b ≤ s .b .top

@@ -26,7 +26,7 @@ pub trait Judge {
 
     ghost meaning: { Self → Meaning };
 
-    ghost table: { (s : Self) → Table scales (meaning s) };
+    ghost table: { (s : Self) → Table (meaning s) };
 
     law tied: { scales ≡ record { a = CostA·Scale .places; b = CostB·Scale .places } };
 

@@ -1,7 +1,7 @@
 -- What a bound on a cost makes of a partial setting, and what a plan costs at least.
 use mathlib.Core.Path.{_≡_}
 use mathlib.Core.List.{List}
-use mathlib.Core.Bool.{Bool, true, not}
+use mathlib.Core.Bool.{Bool, true, false, not}
 use Prim.Native.Nat.{ℕ, _≤_, _<_}
 use lib.IntN.{ℤ, pos, negsuc}
 use lib.ListN.{getD}
@@ -9,7 +9,7 @@ use Rattle.std.specs.declared.option.Option.{Option}
 use Rattle.std.specs.declared.option.Option.the-variants.{Some, None}
 use Rattle.scales.specs.Laws.{Places}
 use Rattle.bits.specs.Bit.{bit}
-use Rattle.design.specs.Mark.{bit-of}
+use Rattle.design.specs.Mark.{bit-of, holds}
 use Rattle.design.specs.Cost.{total, cost}
 use Rattle.design.specs.declared.price.Price.{Price}
 use Rattle.propagation.specs.Held.{Met}
@@ -26,6 +26,12 @@ sure p (negsuc k) = not (bit (p .up) (bit-of (negsuc k)))
 -- what the sure marks cost
 abbrev pub sure-total : Places → List Price → Partial → ℕ
 sure-total s ps p = total s (sure p) ps
+
+-- less is left open, and no setting is lost of which the mark is false
+pub record Excluded (p : Partial) (m : ℤ) (q : Partial) : Type 0 where
+  pub up-le : q .up ≤ p .up
+  pub down-le : q .down ≤ p .down
+  pub keeps : (w : ℕ) → Agrees (p .up) (p .down) w → holds w m ≡ false → Agrees (q .up) (q .down) w
 
 -- a setting whose cost is within the bound
 abbrev pub Affordable : Places → List Price → ℕ → ℕ → Type 0

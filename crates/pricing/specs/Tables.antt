@@ -26,3 +26,12 @@ leave-mark k = negsuc k
 -- a table by bits has the prices of marks
 abbrev pub Tabled : (ℕ → ℤ) → List ℕ → List Price → Type 0
 Tabled f table ps = (k : ℕ) → k < 64 → getD table k 0 ≡ price-at ps (f k)
+
+-- a mark's price as one of taking its choice, and one of leaving it
+abbrev pub take-side : ℤ → ℕ → ℕ
+take-side (pos c) p = p
+take-side (negsuc k) p = 0
+
+abbrev pub leave-side : ℤ → ℕ → ℕ
+leave-side (pos c) p = 0
+leave-side (negsuc k) p = p

@@ -5,7 +5,7 @@ ghost use Rattle.std.specs.Of.Vec.{vec-items};
 ghost use Rattle.bits.specs.Bit.{bit};
 ghost use Rattle.design.specs.Mark.{named};
 ghost use Rattle.design.specs.Cost.{cost};
-ghost use Rattle.pricing.specs.Bounds.{sure, sure-total, Bounded, Least, At-most, Cheap};
+ghost use Rattle.pricing.specs.Bounds.{sure, sure-total, Excluded, Bounded, Least, At-most, Cheap};
 use crate::list::PriceList;
 use bits::has_bit;
 use bits::highest_index;
@@ -26,6 +26,17 @@ fn is_sure(mark: i8, at: Partial) -> bool
 {
     let against = if mark > 0 { at.down } else { at.up };
     !has_bit(against, choice_bit(mark))
+}
+
+// What is left where a mark is false.
+fn exclude(at: Partial, mark: i8) -> Partial
+    requires { ⌜ named 64 mark ≡ true ⌝ }
+    ensures { λ r. ⌜ Excluded at mark r ⌝ }
+{
+    Partial {
+        up: without(at.up, up_word(mark)),
+        down: without(at.down, down_word(mark)),
+    }
 }
 
 // The least of a number and of a table's entries at the bits of a word.
@@ -60,7 +71,10 @@ impl PriceList {
     pub fn cost<S: Scale>(&self, word: u64) -> u8
         ensures { λ r. ⌜ r ≡ cost (S·Scale .places) (vec-items (now (self .entry) .entries)) word ⌝ }
     {
-        self.sure_cost::<S>(Partial { up: word, down: word ^ u64::MAX })
+        self.sure_cost::<S>(Partial {
+            up: word,
+            down: word ^ u64::MAX,
+        })
     }
 
     // Excludes the marks that would break a bound; nothing where the sure marks break it.
@@ -77,7 +91,7 @@ impl PriceList {
         let mut here = at;
         for price in self.entries.as_slice() {
             if join_places::<S>(sum, price.place) > bound && !is_sure(price.mark, at) {
-                here = Partial { up: without(here.up, up_word(price.mark)), down: without(here.down, down_word(price.mark)) };
+                here = exclude(here, price.mark);
             }
         }
         Some(here)
@@ -87,7 +101,11 @@ impl PriceList {
     fn cheapest(&self, takes: u64, leaves: u64) -> u8
         ensures { λ r. ⌜ Cheap (vec-items (now (self .entry) .entries)) takes leaves r ⌝ }
     {
-        least_at(&self.leaving, leaves, least_at(&self.taking, takes, u8::MAX))
+        least_at(
+            &self.leaving,
+            leaves,
+            least_at(&self.taking, takes, u8::MAX),
+        )
     }
 
     // What every setting that agrees and meets the rules costs at least: the sure marks, joined with
@@ -95,7 +113,7 @@ impl PriceList {
     pub fn least<S: Scale>(&self, rules: &[Rule], at: Partial) -> u8
         ensures { λ r. ⌜ Least (S·Scale .places) (now (rules .entry)) (vec-items (now (self .entry) .entries)) at r ⌝ }
     {
-        let mut sum = S::from_place(self.sure_cost::<S>(at));
+        let mut sum = self.sure_cost::<S>(at);
         let mut seen = (at.up & at.down) ^ u64::MAX;
         for rule in rules {
             let takes = rule.ups & at.up;
@@ -103,11 +121,11 @@ impl PriceList {
             if (takes | leaves) & seen == 0 {
                 let price = self.cheapest(takes, leaves);
                 if price > 0 {
-                    sum = S::join(sum, S::from_place(price));
+                    sum = join_places::<S>(sum, price);
                     seen |= takes | leaves;
                 }
             }
         }
-        S::place_of(sum)
+        sum
     }
 }

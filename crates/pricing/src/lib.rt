@@ -3,4 +3,5 @@
 mod bound;
 mod list;
 mod table;
+
 pub use list::PriceList;

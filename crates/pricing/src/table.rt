@@ -5,12 +5,19 @@ ghost use Prim.Native.Nat.{ℕ, _≤_, _<_};
 ghost use Rattle.std.specs.Of.Vec.{vec-items, vec-len, vec-cap};
 ghost use Rattle.design.specs.Mark.{named};
 ghost use Rattle.propagation.specs.Masks.{ups-of, downs-of};
-ghost use Rattle.pricing.specs.Tables.{marks-in};
+ghost use Rattle.pricing.specs.Tables.{marks-in, take-side, leave-side};
 use crate::list::PriceList;
 use design::Price;
 use design::choice_bit;
 use propagation::down_word;
 use propagation::up_word;
+
+// A price as one of taking a choice and one of leaving it.
+fn sides(mark: i8, place: u8) -> (u8, u8)
+    ensures { λ r. ⌜ r ≡ (take-side mark place, leave-side mark place) ⌝ }
+{
+    if mark >= 0 { (place, 0) } else { (0, place) }
+}
 
 impl PriceList {
     // No prices, in the memory that is handed in.
@@ -18,7 +25,13 @@ impl PriceList {
         requires { ⌜ vec-items entries ≡ [] ⌝ }
         ensures { λ r. ⌜ r .entries ≡ entries ⌝ }
     {
-        PriceList { entries, taking: [0; 64], leaving: [0; 64], ups: 0, downs: 0 }
+        PriceList {
+            entries,
+            taking: [0; 64],
+            leaving: [0; 64],
+            ups: 0,
+            downs: 0,
+        }
     }
 
     // The prices in order of entry.
@@ -36,11 +49,9 @@ impl PriceList {
         ensures room { λ _. ⌜ vec-cap (now (self .entry) .entries) ≤ vec-cap (now (self .exit) .entries) ⌝ }
     {
         let k = choice_bit(mark) as usize;
-        if mark > 0 {
-            self.taking[k] = self.taking[k].max(place);
-        } else {
-            self.leaving[k] = self.leaving[k].max(place);
-        }
+        let (take, leave) = sides(mark, place);
+        self.taking[k] = self.taking[k].max(take);
+        self.leaving[k] = self.leaving[k].max(leave);
         self.ups |= up_word(mark);
         self.downs |= down_word(mark);
         self.entries.push_reserved(Price { mark, place });

@@ -17,12 +17,12 @@ use Rattle.design.specs.Mark.{named, all-named}
 use Rattle.propagation.specs.Masks.{up-bit, down-bit, ups-from, downs-from, ups-of, downs-of}
 use Rattle.propagation.specs.Held.{marks-of, rules-of}
 
-ups-more : (u : ℕ) (ms : List ℤ) (m : ℤ) → ups-from u (ms ++ m ∷ []) ≡ bitOr (ups-from u ms) (up-bit m)
+pub ups-more : (u : ℕ) (ms : List ℤ) (m : ℤ) → ups-from u (ms ++ m ∷ []) ≡ bitOr (ups-from u ms) (up-bit m)
 unfolding ups-from
 ups-more u [] m = refl
 ups-more u (x ∷ ms) m = ups-more (bitOr u (up-bit x)) ms m
 
-downs-more : (u : ℕ) (ms : List ℤ) (m : ℤ) → downs-from u (ms ++ m ∷ []) ≡ bitOr (downs-from u ms) (down-bit m)
+pub downs-more : (u : ℕ) (ms : List ℤ) (m : ℤ) → downs-from u (ms ++ m ∷ []) ≡ bitOr (downs-from u ms) (down-bit m)
 unfolding downs-from
 downs-more u [] m = refl
 downs-more u (x ∷ ms) m = downs-more (bitOr u (down-bit x)) ms m

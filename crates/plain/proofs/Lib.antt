@@ -1,0 +1,4 @@
+pub mod Entering
+pub mod Searching
+pub mod Answering
+pub mod Laws

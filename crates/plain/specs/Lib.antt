@@ -1,0 +1,4 @@
+pub mod Held
+pub mod Search
+pub mod Asked
+pub mod Kept

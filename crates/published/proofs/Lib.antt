@@ -1,0 +1,3 @@
+mod Values
+mod Words
+mod Agreed

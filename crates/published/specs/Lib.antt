@@ -1,0 +1,2 @@
+pub mod Literature
+pub mod Reading
