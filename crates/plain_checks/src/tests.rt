@@ -1,19 +1,19 @@
-use crate::Skips;
-use crate::SkipsScale;
-use crate::Sum200;
-use crate::Sum200Scale;
-use crate::draft::Draft;
-use crate::drive::MismatchDebug;
-use crate::drive::compare;
-use crate::drive::enter_rule;
-use crate::drive::expect_prices_a;
-use crate::drive::expect_prices_b;
-use crate::drive::expect_rules;
-use crate::drive::refusal;
-use crate::fill::fill_and_compare;
-use crate::fill::plant_and_seek;
-use crate::fill::provoke;
-use crate::random::Random;
+use checks::Skips;
+use checks::SkipsScale;
+use checks::Sum200;
+use checks::Sum200Scale;
+use checks::draft::Draft;
+use checks::drive::MismatchDebug;
+use checks::drive::compare;
+use checks::drive::enter_rule;
+use checks::drive::expect_prices_a;
+use checks::drive::expect_prices_b;
+use checks::drive::expect_rules;
+use checks::drive::refusal;
+use checks::fill::fill_and_compare;
+use checks::fill::plant_and_seek;
+use checks::fill::provoke;
+use checks::random::Random;
 use judge::Judge;
 use judge::check_sizes;
 use plain::Plain;
@@ -55,7 +55,11 @@ fn small_designs<A: Scale, B: Scale>(heap: Global, seed: u64, count: u8) -> Resu
 fn wide_designs<A: Scale, B: Scale>(heap: Global, seed: u64, count: u8) -> Result<(), Fail> {
     let mut random = Random::new(seed);
     for k in 0..count {
-        let choices = if k % 2 == 0 { 64 } else { random.below(54).saturating_add(11) };
+        let choices = if k % 2 == 0 {
+            64
+        } else {
+            random.below(54).saturating_add(11)
+        };
         let mut judge = made::<A, B>(heap, choices, 64, 1024)?;
         let mut draft = Draft::new(heap, choices, 64, 1024, 8);
         fill_and_compare(&mut judge, &mut draft, heap, &mut random)?;
@@ -91,34 +95,34 @@ fn provoked_designs<A: Scale, B: Scale>(heap: Global, seed: u64, count: u8) -> R
 #[test]
 fn small_designs_agree_with_the_sweep(rt: LibcRuntime) -> Result<(), Fail> {
     let heap = rt.alloc();
-    small_designs::<Hours, Needles>(heap, 1, 100)?;
-    small_designs::<Needles, Hours>(heap, 2, 100)?;
-    small_designs::<Skips, Skips>(heap, 3, 200)?;
-    small_designs::<Hours, Skips>(heap, 4, 200)?;
-    small_designs::<Sum200, Needles>(heap, 5, 20)
+    small_designs::<Hours, Needles>(heap, 1, 250)?;
+    small_designs::<Needles, Hours>(heap, 2, 250)?;
+    small_designs::<Skips, Skips>(heap, 3, 250)?;
+    small_designs::<Hours, Skips>(heap, 4, 250)?;
+    small_designs::<Sum200, Needles>(heap, 5, 50)
 }
 
 #[test]
 fn wide_designs_agree_with_the_sweep(rt: LibcRuntime) -> Result<(), Fail> {
     let heap = rt.alloc();
-    wide_designs::<Hours, Needles>(heap, 11, 30)?;
-    wide_designs::<Skips, Skips>(heap, 12, 100)?;
-    wide_designs::<Skips, Sum200>(heap, 13, 30)
+    wide_designs::<Hours, Needles>(heap, 11, 100)?;
+    wide_designs::<Skips, Skips>(heap, 12, 200)?;
+    wide_designs::<Skips, Sum200>(heap, 13, 50)
 }
 
 #[test]
 fn a_known_plan_is_not_missed(rt: LibcRuntime) -> Result<(), Fail> {
     let heap = rt.alloc();
-    planted_designs::<Hours, Needles>(heap, 15, 100)?;
-    planted_designs::<Sum200, Skips>(heap, 16, 100)
+    planted_designs::<Hours, Needles>(heap, 15, 200)?;
+    planted_designs::<Sum200, Skips>(heap, 16, 200)
 }
 
 #[test]
 fn refusals_change_nothing(rt: LibcRuntime) -> Result<(), Fail> {
     let heap = rt.alloc();
-    provoked_designs::<Skips, Skips>(heap, 21, 60)?;
-    provoked_designs::<Hours, Skips>(heap, 22, 20)?;
-    provoked_designs::<Needles, Skips>(heap, 23, 20)
+    provoked_designs::<Skips, Skips>(heap, 21, 200)?;
+    provoked_designs::<Hours, Skips>(heap, 22, 50)?;
+    provoked_designs::<Needles, Skips>(heap, 23, 50)
 }
 
 fn expect_sizes(owed: Option<u8>, sizes: &[(u8, u8, u16)]) -> Result<(), Fail> {
@@ -136,7 +140,10 @@ fn expect_sizes(owed: Option<u8>, sizes: &[(u8, u8, u16)]) -> Result<(), Fail> {
 fn sizes_have_edges() -> Result<(), Fail> {
     expect_sizes(None, &[(1, 1, 1), (64, 64, 1024)])?;
     expect_sizes(Some(5), &[(0, 1, 1), (65, 1, 1), (0, 0, 1025), (65, 65, 0)])?;
-    expect_sizes(Some(6), &[(1, 0, 1), (1, 65, 1), (64, 1, 0), (64, 1, 1025), (1, 0, 0)])
+    expect_sizes(
+        Some(6),
+        &[(1, 0, 1), (1, 65, 1), (64, 1, 0), (64, 1, 1025), (1, 0, 0)],
+    )
 }
 
 #[test]
@@ -177,10 +184,42 @@ fn rules_have_edges(rt: LibcRuntime) -> Result<(), Fail> {
 #[test]
 fn prices_have_edges(rt: LibcRuntime) -> Result<(), Fail> {
     let mut judge = made::<Hours, Needles>(rt.alloc(), 10, 3, 100)?;
-    expect_prices_a(&mut judge, &[(1, 0, Some(11)), (1, 41, Some(11)), (1, 40, None), (-1, 1, None)])?;
-    expect_prices_a(&mut judge, &[(1, 40, Some(12)), (-1, 2, Some(12)), (2, 7, None), (3, 7, Some(13))])?;
-    expect_prices_b(&mut judge, &[(1, 0, Some(11)), (1, 25, Some(11)), (1, 24, None), (-1, 1, None)])?;
-    expect_prices_b(&mut judge, &[(1, 24, Some(12)), (-1, 2, Some(12)), (3, 7, None), (4, 7, Some(13))])?;
+    expect_prices_a(
+        &mut judge,
+        &[
+            (1, 0, Some(11)),
+            (1, 41, Some(11)),
+            (1, 40, None),
+            (-1, 1, None),
+        ],
+    )?;
+    expect_prices_a(
+        &mut judge,
+        &[
+            (1, 40, Some(12)),
+            (-1, 2, Some(12)),
+            (2, 7, None),
+            (3, 7, Some(13)),
+        ],
+    )?;
+    expect_prices_b(
+        &mut judge,
+        &[
+            (1, 0, Some(11)),
+            (1, 25, Some(11)),
+            (1, 24, None),
+            (-1, 1, None),
+        ],
+    )?;
+    expect_prices_b(
+        &mut judge,
+        &[
+            (1, 24, Some(12)),
+            (-1, 2, Some(12)),
+            (3, 7, None),
+            (4, 7, Some(13)),
+        ],
+    )?;
     check_eq(judge.costs(0b11), (40, 24))?;
     check_eq(judge.costs(0b110), (8, 7))
 }
@@ -190,10 +229,32 @@ fn prices_have_edges(rt: LibcRuntime) -> Result<(), Fail> {
 fn the_first_refusal_counts(rt: LibcRuntime) -> Result<(), Fail> {
     let mut judge = made::<Needles, Hours>(rt.alloc(), 10, 1, 1)?;
     expect_prices_a(&mut judge, &[(5, 3, None)])?;
-    expect_prices_a(&mut judge, &[(11, 25, Some(10)), (5, 25, Some(11)), (5, 24, Some(12)), (-5, 24, Some(13))])?;
+    expect_prices_a(
+        &mut judge,
+        &[
+            (11, 25, Some(10)),
+            (5, 25, Some(11)),
+            (5, 24, Some(12)),
+            (-5, 24, Some(13)),
+        ],
+    )?;
     expect_prices_b(&mut judge, &[(5, 3, None)])?;
-    expect_prices_b(&mut judge, &[(-11, 0, Some(10)), (5, 41, Some(11)), (5, 40, Some(12)), (-5, 40, Some(13))])?;
-    expect_rules(&mut judge, &[(&[1, 2, 3, 4, 5, 6, 7, 8, 11], Some(9)), (&[1, -11], Some(10))])?;
+    expect_prices_b(
+        &mut judge,
+        &[
+            (-11, 0, Some(10)),
+            (5, 41, Some(11)),
+            (5, 40, Some(12)),
+            (-5, 40, Some(13)),
+        ],
+    )?;
+    expect_rules(
+        &mut judge,
+        &[
+            (&[1, 2, 3, 4, 5, 6, 7, 8, 11], Some(9)),
+            (&[1, -11], Some(10)),
+        ],
+    )?;
     expect_rules(&mut judge, &[(&[1], Some(13)), (&[], None)])?;
     Ok(())
 }
@@ -212,7 +273,13 @@ fn fill_rules_to_the_edge<J: Judge>(judge: &mut J) -> Result<(), Fail> {
     for _ in 0..113u8 {
         expect_rules(judge, &[(&[57, 58, 59, 60, 61, 62, 63, 64], None)])?;
     }
-    expect_rules(judge, &[(&[1, 2, 3, 4, 5, 6, 7], Some(13)), (&[1, 2, 3, 4, 5, 6], None)])?;
+    expect_rules(
+        judge,
+        &[
+            (&[1, 2, 3, 4, 5, 6, 7], Some(13)),
+            (&[1, 2, 3, 4, 5, 6], None),
+        ],
+    )?;
     expect_rules(judge, &[(&[], Some(13))])?;
     Ok(())
 }
