@@ -49,9 +49,9 @@ impl<A: Scale, B: Scale> Plain<A, B> {
         if self.is_hopeless(a, b, here) {
             return None;
         }
-        let ups = self.prices_a.ups() | self.prices_b.ups();
-        let downs = self.prices_a.downs() | self.prices_b.downs();
-        let eased = ease(self.rules.as_slice(), ups, downs, here);
+        let (ups_a, downs_a) = self.prices_a.priced_choices();
+        let (ups_b, downs_b) = self.prices_b.priced_choices();
+        let eased = ease(self.rules.as_slice(), ups_a | ups_b, downs_a | downs_b, here);
         if eased.up != here.up || eased.down != here.down {
             return self.search(a, b, eased);
         }

@@ -57,17 +57,10 @@ impl PriceList {
         self.entries.push_reserved(Price { mark, place });
     }
 
-    // The choices that cost something to take.
-    pub fn ups(&self) -> u64
-        ensures { λ r. ⌜ r ≡ ups-of (marks-in (vec-items (now (self .entry) .entries))) ⌝ }
+    // The choices that cost something to take, and those that cost something to leave.
+    pub fn priced_choices(&self) -> (u64, u64)
+        ensures { λ r. ⌜ r ≡ (ups-of (marks-in (vec-items (now (self .entry) .entries))), downs-of (marks-in (vec-items (now (self .entry) .entries)))) ⌝ }
     {
-        self.ups
-    }
-
-    // The choices that cost something to leave.
-    pub fn downs(&self) -> u64
-        ensures { λ r. ⌜ r ≡ downs-of (marks-in (vec-items (now (self .entry) .entries))) ⌝ }
-    {
-        self.downs
+        (self.ups, self.downs)
     }
 }

@@ -1,6 +1,6 @@
-use mathlib.Core.Path.{ap}
+use borrow.Author.Needs.{needs}
 use Rattle.bits.proofs.OfBits.{low-bit}
 use Rattle.bits.proofs.has_bit.Needs as need
 
 pub returns : need.returns
-returns c = low-bit (c .args .word) (c .args .k)
+returns c = search (needs, low-bit)

@@ -1,6 +1,6 @@
-use native.Mathlib.Omega.{arith}
+use borrow.Author.Needs.{needs}
 use Rattle.bits.proofs.OfBits.{bit-drop, drop-le}
 use Rattle.bits.proofs.without.Needs as need
 
 pub returns : need.returns
-returns c = record { bits = λ k. bit-drop (c .args .word) (c .args .drop) k; less = drop-le (c .args .word) (c .args .drop) (omega arith) }
+returns c = record { bits = λ k. search (needs, bit-drop); less = search (needs, drop-le) }

@@ -36,10 +36,12 @@ returns-then-eased-here g t c =
     let j = c .args .self .now in
     let h = c .in-Continue-here .ensures tt in
     let q = query s j (c .args .a) (c .args .b) in
-    let ups = bitOr (c .ups .result) (c .ups-2 .result) in
-    let downs = bitOr (c .downs .result) (c .downs-2 .result) in
-    let eu : ups ≡ bitOr (ups-of (marks-in (q .prices-a))) (ups-of (marks-in (q .prices-b))) = ap (λ (n : ℕ). bitOr n (c .ups-2 .result)) (c .ups .ensures) ∙ ap (bitOr (ups-of (marks-in (q .prices-a)))) (c .ups-2 .ensures) in
-    let ed : downs ≡ bitOr (downs-of (marks-in (q .prices-a))) (downs-of (marks-in (q .prices-b))) = ap (λ (n : ℕ). bitOr n (c .downs-2 .result)) (c .downs .ensures) ∙ ap (bitOr (downs-of (marks-in (q .prices-a)))) (c .downs-2 .ensures) in
+    let x1 = c .priced-choices-ups-a .result in
+    let x2 = c .priced-choices-ups-b .result in
+    let ups = bitOr (x1 .0) (x2 .0) in
+    let downs = bitOr (x1 .1) (x2 .1) in
+    let eu : ups ≡ bitOr (ups-of (marks-in (q .prices-a))) (ups-of (marks-in (q .prices-b))) = ap (λ (n : ℕ). bitOr n (x2 .0)) (ap (λ (z : ℕ × ℕ). z .0) (c .priced-choices-ups-a .ensures)) ∙ ap (bitOr (ups-of (marks-in (q .prices-a)))) (ap (λ (z : ℕ × ℕ). z .0) (c .priced-choices-ups-b .ensures)) in
+    let ed : downs ≡ bitOr (downs-of (marks-in (q .prices-a))) (downs-of (marks-in (q .prices-b))) = ap (λ (n : ℕ). bitOr n (x2 .1)) (ap (λ (z : ℕ × ℕ). z .1) (c .priced-choices-ups-a .ensures)) ∙ ap (bitOr (downs-of (marks-in (q .prices-a)))) (ap (λ (z : ℕ × ℕ). z .1) (c .priced-choices-ups-b .ensures)) in
     through q (c .args .at) (c .in-Continue-here .here) (c .search .result) (h .0)
     (eased-found q
     (sound s j (c .args .a) (c .args .b) (place-laws (x .places) (x .place) (x .at) (x .joined) (x .laws)) (place-laws (y .places) (y .place) (y .at) (y .joined) (y .laws)))
