@@ -191,11 +191,6 @@ fn prices_have_edges(rt: LibcRuntime) -> Result<(), Fail> {
             (1, 41, Some(11)),
             (1, 40, None),
             (-1, 1, None),
-        ],
-    )?;
-    expect_prices_a(
-        &mut judge,
-        &[
             (1, 40, Some(12)),
             (-1, 2, Some(12)),
             (2, 7, None),
@@ -209,11 +204,6 @@ fn prices_have_edges(rt: LibcRuntime) -> Result<(), Fail> {
             (1, 25, Some(11)),
             (1, 24, None),
             (-1, 1, None),
-        ],
-    )?;
-    expect_prices_b(
-        &mut judge,
-        &[
             (1, 24, Some(12)),
             (-1, 2, Some(12)),
             (3, 7, None),
