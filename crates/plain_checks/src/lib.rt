@@ -1,0 +1,3 @@
+// The plain judge against the full sweep: tests alone.
+#[cfg(test)]
+mod tests;
