@@ -70,7 +70,7 @@ pub fn all() -> Vec<Design> {
     last.bounds = (3, 24);
     list.push(last);
     for n in [30u64, 40, 50, 60] {
-        for seed in 1..=4 {
+        for seed in 1..=6 {
             // 256 rules of three marks fill the rule capacity
             let count = ((n as f64 * 4.3) as usize).min(256);
             list.push(design(&format!("random three-mark, {n} choices, seed {seed}"), n as u8, random_rules(n, count, true, seed)));
