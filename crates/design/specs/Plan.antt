@@ -39,6 +39,10 @@ cost-a s m w = cost (s .a) (m .prices-a) w
 unfoldable pub cost-b : Scales → Meaning → ℕ → ℕ
 cost-b s m w = cost (s .b) (m .prices-b) w
 
+-- a setting's two costs
+abbrev pub point : Scales → Meaning → ℕ → ℕ × ℕ
+point s m w = (cost-a s m w, cost-b s m w)
+
 -- a setting that meets every rule and whose costs are at most the limits
 pub record Plan (s : Scales) (m : Meaning) (w : ℕ) : Type 0 where
   pub fits : w < 2 ^ (m .choices)

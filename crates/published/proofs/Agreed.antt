@@ -13,9 +13,9 @@ use Rattle.scales.proofs.ByPlaces.{Place-laws}
 use Rattle.bits.specs.Bit.{bit}
 use Rattle.bits.proofs.OfBits.{same-bits}
 use Rattle.design.specs.Rule.{meets-all}
-use Rattle.design.specs.Plan.{Scales, Meaning, Table, Plan, Within, Sought, Beats, cost-a, cost-b}
+use Rattle.design.specs.Plan.{Scales, Meaning, Table, Plan, Within, Sought, Beats, cost-a, cost-b, point}
 use Rattle.published.specs.Literature.{Assignment, formula-value, Solution, counted, Objective, objective-value, Instance, Feasible, Dominates, Pareto-optimal}
-use Rattle.published.specs.Reading.{truth-value, value-in, assignment-of, instance-of, point, image, Stands-for, Best, Reads-as, Within-bounds, Solved}
+use Rattle.published.specs.Reading.{truth-value, value-in, assignment-of, instance-of, image, Stands-for, Best, Reads-as, Within-bounds, Solved}
 use Rattle.published.proofs.Values.{Gives, formula-met, objective-cost}
 use Rattle.published.proofs.Words.{word-for}
 

@@ -1,3 +1,3 @@
-mod Values
-mod Words
-mod Agreed
+pub mod Values
+pub mod Words
+pub mod Agreed

@@ -11,7 +11,7 @@ use Rattle.std.specs.declared.option.Option.the-variants.{Some, None}
 use Rattle.scales.specs.Laws.{Places}
 use Rattle.bits.specs.Bit.{bit}
 use Rattle.design.specs.Rule.{meets-all}
-use Rattle.design.specs.Plan.{Scales, Meaning, Plan, Beats, cost-a, cost-b}
+use Rattle.design.specs.Plan.{Scales, Meaning, Plan, Beats, point}
 use Rattle.design.specs.declared.price.Price.{Price}
 use Rattle.published.specs.Literature.{Assignment, Literal, variable, negation, formula-value, Solution, Term, Objective, objective-value, Instance, Feasible, Dominates, Pareto-optimal}
 
@@ -57,9 +57,6 @@ value-either w (suc k) = truth-either (bit w k)
 
 abbrev pub assignment-of : ℕ → Assignment
 assignment-of w = record { value = value-in w; two-valued = value-either w }
-
-abbrev pub point : Scales → Meaning → ℕ → ℕ × ℕ
-point s m w = (cost-a s m w, cost-b s m w)
 
 abbrev pub image : Instance → Assignment → ℕ × ℕ
 image I τ = (objective-value τ (I .first), objective-value τ (I .second))

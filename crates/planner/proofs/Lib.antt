@@ -1,0 +1,5 @@
+pub mod Lists
+pub mod Fronts
+pub mod Extend
+pub mod Halving
+pub mod Telling
