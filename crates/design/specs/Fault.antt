@@ -8,7 +8,7 @@ use Rattle.std.specs.declared.option.Option.the-variants.{Some, None}
 use Rattle.std.specs.declared.result.Result.{Result}
 use Rattle.std.specs.declared.result.Result.the-variants.{Ok, Err}
 use Rattle.design.specs.declared.fault.Layer.{Layer}
-use Rattle.design.specs.declared.fault.Layer.the-variants.{Judge}
+use Rattle.design.specs.declared.fault.Layer.the-variants.{Job, Planner, Judge}
 use Rattle.design.specs.declared.fault.JudgeFault.{JudgeFault}
 use Rattle.design.specs.declared.fault.JudgeFault.the-variants.{Choices, Capacity, LongRule, BadMark, BadPlace, PricedTwice, Full}
 
@@ -25,6 +25,8 @@ abbrev pub judge-layer : JudgeFault → Layer
 judge-layer f = Judge
 
 abbrev pub layer-name : Layer → List ℕ
+layer-name Job = codes "job"
+layer-name Planner = codes "planner"
 layer-name Judge = codes "judge"
 
 -- of refusals with their conditions, in order, the first whose condition holds

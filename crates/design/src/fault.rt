@@ -4,6 +4,8 @@ ghost use Rattle.design.specs.Fault.{judge-number, judge-layer, layer-name};
 // The part of the planner that found a fault.
 #[derive(Clone, Copy, PartialEq, Eq, Debug)]
 pub enum Layer {
+    Job,
+    Planner,
     Judge,
 }
 
@@ -31,6 +33,8 @@ impl Layer {
         ensures { λ r. ⌜ now r ≡ layer-name self ⌝ }
     {
         match self {
+            Layer::Job => "job",
+            Layer::Planner => "planner",
             Layer::Judge => "judge",
         }
     }

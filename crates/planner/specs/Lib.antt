@@ -5,3 +5,4 @@ pub mod Runs
 pub mod Search
 pub mod Left
 pub mod Calls
+pub mod Faults

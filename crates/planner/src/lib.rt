@@ -8,8 +8,10 @@ mod search;
 mod state;
 
 ghost use mathlib.Core.Path.{_≡_};
+ghost use Rattle.planner.specs.Faults.{planner-number, planner-layer};
 ghost use Rattle.planner.specs.Order.{last-b};
 ghost use Rattle.planner.specs.Runs.{Steps, Extends, state-in, start, ruled, priced-a, priced-b, restarted, read-at};
+use design::Layer;
 pub use call::Call;
 pub use call::Outcome;
 pub use call::RuleMarks;
@@ -25,6 +27,28 @@ pub use state::ListRoom;
 pub use state::Planner;
 use std::alloc::AllocError;
 use std::alloc::Global;
+
+impl PlannerFault {
+    pub fn number(self) -> u8
+        ensures { λ r. ⌜ r ≡ planner-number self ⌝ }
+    {
+        match self {
+            PlannerFault::ListingOpen => 8,
+            PlannerFault::NoEntry => 14,
+            PlannerFault::Judge(fault) => fault.number(),
+        }
+    }
+
+    pub fn layer(self) -> Layer
+        ensures { λ r. ⌜ r ≡ planner-layer self ⌝ }
+    {
+        match self {
+            PlannerFault::ListingOpen => Layer::Planner,
+            PlannerFault::NoEntry => Layer::Planner,
+            PlannerFault::Judge(fault) => fault.layer(),
+        }
+    }
+}
 
 impl ListRoom {
     pub fn new(heap: Global) -> Result<ListRoom, AllocError> {

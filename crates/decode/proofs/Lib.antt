@@ -1,0 +1,2 @@
+pub mod OfMarks
+pub mod OfJobs

@@ -1,0 +1,27 @@
+-- The number and the layer of a job's refusals; what stands below keeps its own.
+use Prim.Native.Nat.{ℕ}
+use Rattle.design.specs.declared.fault.Layer.{Layer}
+use Rattle.design.specs.declared.fault.Layer.the-variants as layer
+use Rattle.decode.specs.declared.command.Spoilt.{Spoilt}
+use Rattle.decode.specs.declared.command.Spoilt.the-variants as spoilt
+use Rattle.planner.specs.Faults.{planner-number, planner-layer}
+use Rattle.job.specs.declared.fault.JobFault.{JobFault}
+use Rattle.job.specs.declared.fault.JobFault.the-variants.{TooLong, Unknown, CutOff, Order, Planner}
+
+abbrev pub job-number : JobFault → ℕ
+job-number TooLong = 1
+job-number Unknown = 2
+job-number CutOff = 3
+job-number Order = 4
+job-number (Planner f) = planner-number f
+
+abbrev pub job-layer : JobFault → Layer
+job-layer TooLong = layer.Job
+job-layer Unknown = layer.Job
+job-layer CutOff = layer.Job
+job-layer Order = layer.Job
+job-layer (Planner f) = planner-layer f
+
+abbrev pub spoilt-fault : Spoilt → JobFault
+spoilt-fault spoilt.Unknown = Unknown
+spoilt-fault spoilt.CutOff = CutOff
