@@ -1,2 +1,4 @@
 pub mod Faults
 pub mod Making
+pub mod Performing
+pub mod Stages

@@ -1,3 +1,5 @@
+ghost use mathlib.Core.Path.{_≡_};
+ghost use Rattle.job.specs.declared.fault.JobFault.the-variants.{Planner};
 use planner::PlannerFault;
 
 // Why a command of a job is refused.
@@ -13,4 +15,12 @@ pub enum JobFault {
     Order,
     // The planner, or what stands below it, refuses.
     Planner(PlannerFault),
+}
+
+pub impl From<PlannerFault> for JobFault as PlannerFaultUp {
+    ghost converts = { λ x y. y ≡ Planner x };
+
+    fn from(fault: PlannerFault) -> JobFault {
+        JobFault::Planner(fault)
+    }
 }
