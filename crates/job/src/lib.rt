@@ -1,6 +1,8 @@
 // A job on a planner: what each command does and answers. It is one text for every way to make a judge.
 mod commands;
+mod drive;
 mod fault;
+mod line;
 mod maker;
 mod stage;
 
@@ -9,7 +11,10 @@ ghost use Rattle.job.specs.Faults.{job-number, job-layer, spoilt-fault};
 pub use commands::perform;
 use decode::Spoilt;
 use design::Layer;
+pub use drive::run_job;
 pub use fault::JobFault;
+pub use line::Line;
+pub use line::LineDisplay;
 pub use maker::Maker;
 pub use maker::Unmade;
 pub use stage::Stage;
