@@ -1,3 +1,4 @@
 pub mod OfBytes
 pub mod OfMarks
 pub mod OfJobs
+pub mod Spelling
