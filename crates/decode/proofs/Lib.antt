@@ -1,2 +1,4 @@
+pub mod OfBytes
 pub mod OfMarks
 pub mod OfJobs
+pub mod Spelling

@@ -1,6 +1,7 @@
 ghost use mathlib.Core.Path.{_≡_};
 ghost use Prim.Native.Nat.{_+_, _^_, _<_};
 ghost use lib.ListN.{length};
+ghost use Rattle.decode.specs.Bytes.{Spells};
 ghost use Rattle.decode.specs.Format.{mark-of, set-up, rule, price-a, price-b, read, read-as, form, first-command, command-at, Advances};
 use crate::command::Command;
 use crate::command::Spoilt;
@@ -111,6 +112,7 @@ fn read_command(bytes: &[u8], at: usize) -> Result<(Command, usize), Spoilt>
 pub fn decode(job: &[u8], at: usize) -> Option<Result<(Command, usize), Spoilt>>
     ensures says { λ r. ⌜ r ≡ command-at (now (job .entry)) at ⌝ }
     ensures advances { λ r. ⌜ Advances (now (job .entry)) at r ⌝ }
+    ensures spells { λ r. ⌜ Spells (now (job .entry)) at r ⌝ }
 {
     if at < job.len() {
         Some(read_command(&job[at..], at))
