@@ -1,5 +1,9 @@
 -- The number and the layer of a job's refusals; what stands below keeps its own.
+use mathlib.Core.Bool.{cond}
 use Prim.Native.Nat.{ℕ}
+use lib.Dec.{ltb}
+use Rattle.std.specs.declared.result.Result.{Result}
+use Rattle.std.specs.declared.result.Result.the-variants.{Ok, Err}
 use Rattle.design.specs.declared.fault.Layer.{Layer}
 use Rattle.design.specs.declared.fault.Layer.the-variants as layer
 use Rattle.decode.specs.declared.command.Spoilt.{Spoilt}
@@ -25,3 +29,7 @@ job-layer (Planner f) = planner-layer f
 abbrev pub spoilt-fault : Spoilt → JobFault
 spoilt-fault spoilt.Unknown = Unknown
 spoilt-fault spoilt.CutOff = CutOff
+
+-- a job has at most 16,384 bytes
+abbrev pub length-answer : ℕ → Result (Unit {0}) JobFault
+length-answer n = cond (ltb 16384 n) (Err TooLong) (Ok tt)

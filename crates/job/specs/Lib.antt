@@ -2,3 +2,4 @@ pub mod Faults
 pub mod Making
 pub mod Performing
 pub mod Stages
+pub mod Lines

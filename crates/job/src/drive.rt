@@ -1,3 +1,5 @@
+ghost use mathlib.Core.Path.{_≡_};
+ghost use Rattle.job.specs.Faults.{length-answer};
 use crate::commands::perform;
 use crate::fault::JobFault;
 use crate::line::Line;
@@ -12,6 +14,17 @@ use std::io::Read;
 
 // The longest job, in bytes.
 const LONGEST: usize = 16384;
+
+// A job that is too long is refused before it is looked at.
+pub fn check_length(length: usize) -> Result<(), JobFault>
+    ensures { λ r. ⌜ r ≡ length-answer «length» ⌝ }
+{
+    if length > LONGEST {
+        Err(JobFault::TooLong)
+    } else {
+        Ok(())
+    }
+}
 
 // The bytes of standard input, and no more than one past the longest job, so that what never ends is
 // not swallowed.
@@ -59,11 +72,11 @@ where
     M::Judge: Drop,
 {
     let job = read_job(rt, rt.alloc())?;
-    if job.len() > LONGEST {
-        return rt.println(Line {
+    match check_length(job.len()) {
+        Err(fault) => rt.println(Line {
             offset: 0,
-            answer: Err(JobFault::TooLong),
-        });
+            answer: Err(fault),
+        }),
+        Ok(()) => play(rt, maker, room, job.as_slice()),
     }
-    play(rt, maker, room, job.as_slice())
 }

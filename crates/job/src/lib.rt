@@ -11,6 +11,7 @@ ghost use Rattle.job.specs.Faults.{job-number, job-layer, spoilt-fault};
 pub use commands::perform;
 use decode::Spoilt;
 use design::Layer;
+pub use drive::check_length;
 pub use drive::run_job;
 pub use fault::JobFault;
 pub use line::Line;

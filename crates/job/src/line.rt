@@ -1,3 +1,5 @@
+ghost use Rattle.std.specs.Written.{Prints};
+ghost use Rattle.job.specs.Lines.{line-text, refusal-text};
 use crate::fault::JobFault;
 use planner::Outcome;
 use std::fmt;
@@ -10,6 +12,8 @@ pub struct Line {
 }
 
 pub impl fmt::Display for Line as LineDisplay {
+    ghost shown = { line-text };
+
     fn fmt<W: fmt::Write>(&self, f: &mut fmt::Formatter<W>) -> fmt::Result {
         let offset = self.offset;
         match self.answer {
@@ -30,7 +34,9 @@ fn show_refusal<W: fmt::Write>(
     f: &mut fmt::Formatter<W>,
     offset: usize,
     fault: JobFault,
-) -> fmt::Result {
+) -> fmt::Result
+    ensures { λ r. ⌜ Prints took (now (f .entry)) r (refusal-text «offset» fault) (now (f .exit)) ⌝ }
+{
     let number = fault.number();
     let layer = fault.layer().name();
     write!(f, "{offset} refused {number} {layer}")
