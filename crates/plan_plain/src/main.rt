@@ -1,4 +1,7 @@
 // Runs a job from standard input on the plain judge, with hours for cost A and needles for cost B.
+#[cfg(test)]
+mod tests;
+
 ghost use Rattle.judge.specs.Calls.{sizes-fault};
 use job::Maker;
 use job::Unmade;
