@@ -1,7 +1,9 @@
-//! Seeks of the plain judge beside the same search in Rust: nodes visited and time.
-//! Usage: bench PATH-OF-THE-PROGRAM-seeks
+//! Seeks of the plain judge beside the same search in Rust: nodes visited and time. Then whole lists:
+//! seeks and time of a step.
+//! Usage: bench PATH-OF-THE-PROGRAM-seeks PATH-OF-THE-PROGRAM-plan_plain
 
 mod designs;
+mod lists;
 mod search;
 
 use std::io::Write;
@@ -42,8 +44,7 @@ fn best_of<T>(times: usize, mut f: impl FnMut() -> (Duration, T)) -> (Duration, 
     best
 }
 
-fn main() {
-    let program = std::env::args().nth(1).expect("usage: bench PROGRAM");
+fn time_seeks(program: &str) {
     println!("{:52} {:>9} {:>7} {:>11} {:>11} {:>6}", "design", "nodes", "answer", "Rattle", "Rust", "ratio");
     for d in designs::all() {
         let mut judge = judge_of(&d);
@@ -62,8 +63,8 @@ fn main() {
             }
             (start.elapsed(), ())
         });
-        let (idle, _) = best_of(3, || run(&program, &d.bytes(0)));
-        let (whole, text) = best_of(3, || run(&program, &d.bytes(times)));
+        let (idle, _) = best_of(3, || run(program, &d.bytes(0)));
+        let (whole, text) = best_of(3, || run(program, &d.bytes(times)));
         let expected = match answer {
             Some(word) => format!("{} {} {word:016x}", d.bounds.0, d.bounds.1),
             None => format!("{} {} none", d.bounds.0, d.bounds.1),
@@ -80,4 +81,45 @@ fn main() {
             rattle.as_secs_f64() / rust.as_secs_f64()
         );
     }
+}
+
+/// The points that a run of the job program printed.
+fn points(text: &str) -> Vec<(u8, u8)> {
+    text.lines().filter_map(|line| {
+        let (_, point) = line.split_once(" point ")?;
+        let (a, b) = point.split_once(' ')?;
+        Some((a.parse().ok()?, b.parse().ok()?))
+    }).collect()
+}
+
+fn time_lists(program: &str) {
+    println!("{:52} {:>6} {:>10} {:>10} {:>13}", "design", "points", "most seeks", "mean seeks", "time of a step");
+    for d in designs::all() {
+        let steps = lists::list(&mut judge_of(&d));
+        let expected: Vec<_> = steps.iter().filter_map(|s| s.point).collect();
+        let listing = [vec![5u8; steps.len()], vec![6]].concat();
+        let (once, text) = best_of(3, || run(program, &lists::job(&d, &listing)));
+        assert_eq!(points(&text), expected, "{}", d.name);
+        // as many lists as the job's length and a second allow, beside as many commands that cost nothing
+        let room = (16_384 - lists::job(&d, &[]).len()) / listing.len();
+        let times = (1_000_000_000 / once.as_nanos().max(1)).clamp(1, room as u128) as usize;
+        let (idle, _) = best_of(3, || run(program, &lists::job(&d, &vec![6; times * listing.len()])));
+        let (whole, _) = best_of(3, || run(program, &lists::job(&d, &listing.repeat(times))));
+        let seeks: u32 = steps.iter().map(|s| s.seeks).sum();
+        println!(
+            "{:52} {:>6} {:>10} {:>10.1} {:>11.2}us",
+            d.name,
+            expected.len(),
+            steps.iter().map(|s| s.seeks).max().unwrap_or(0),
+            f64::from(seeks) / steps.len() as f64,
+            whole.saturating_sub(idle).as_nanos() as f64 / 1e3 / (times * steps.len()) as f64
+        );
+    }
+}
+
+fn main() {
+    let mut programs = std::env::args().skip(1);
+    let mut program = || programs.next().expect("usage: bench SEEKS PLAN_PLAIN");
+    time_seeks(&program());
+    time_lists(&program());
 }
