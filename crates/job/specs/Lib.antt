@@ -3,3 +3,4 @@ pub mod Making
 pub mod Performing
 pub mod Stages
 pub mod Lines
+pub mod Words

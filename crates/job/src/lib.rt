@@ -5,6 +5,7 @@ mod fault;
 mod line;
 mod maker;
 mod stage;
+mod word;
 
 ghost use mathlib.Core.Path.{_≡_};
 ghost use Rattle.job.specs.Faults.{job-number, job-layer, spoilt-fault};

@@ -1,6 +1,9 @@
+ghost use Rattle.std.specs.declared.option.Option.the-variants.{Some};
 ghost use Rattle.std.specs.Written.{Prints};
 ghost use Rattle.job.specs.Lines.{line-text, refusal-text};
 use crate::fault::JobFault;
+use crate::word::Word;
+use crate::word::WordDisplay;
 use planner::Outcome;
 use std::fmt;
 
@@ -12,7 +15,7 @@ pub struct Line {
 }
 
 pub impl fmt::Display for Line as LineDisplay {
-    ghost shown = { line-text };
+    ghost shown = { λ l. Some (line-text l) };
 
     fn fmt<W: fmt::Write>(&self, f: &mut fmt::Formatter<W>) -> fmt::Result {
         let offset = self.offset;
@@ -21,8 +24,8 @@ pub impl fmt::Display for Line as LineDisplay {
             Ok(Outcome::Point(a, b)) => write!(f, "{offset} point {a} {b}"),
             Ok(Outcome::Ended) => write!(f, "{offset} ended"),
             Ok(Outcome::Plan(entry)) => {
-                let (a, b, word) = (entry.a, entry.b, entry.word);
-                write!(f, "{offset} plan {a} {b} {word:016x}")
+                let (a, b, word) = (entry.a, entry.b, Word(entry.word));
+                write!(f, "{offset} plan {a} {b} {word}")
             }
             Ok(Outcome::Refused(fault)) => show_refusal(f, offset, JobFault::Planner(fault)),
             Err(fault) => show_refusal(f, offset, fault),
