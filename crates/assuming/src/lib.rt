@@ -1,4 +1,6 @@
 // Assumptions as values: before a search every choice is opened, and then each assumption made true.
+#![tactic(auto)]
+
 ghost use Rattle.std.specs.Prelude.{◌≡◌, ℕ, ◌+◌, ◌≤◌, true, length};
 ghost use Rattle.design.specs.Mark.{named, all_are_named};
 ghost use Rattle.assuming.specs.Assumed.{MakesTrue, MakesAllTrue, SameFront, Assumed, Prepared};

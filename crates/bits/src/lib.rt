@@ -1,5 +1,7 @@
 // Words of 64 bits as sets: the few operations that the search is made of, with what they do to
 // each bit.
+#![tactic(auto)]
+
 ghost use Rattle.std.specs.Prelude.{◌≡◌, ℕ, ◌-◌, ◌^◌, ◌<◌, ◌≤◌, true, not, ◌&&◌};
 ghost use Rattle.bits.specs.Bit.{bit, Single};
 

@@ -3,6 +3,8 @@
 // all numbers here; the number of clauses, and of each the number of its marks in one byte and the
 // marks; the number of assumptions and their marks; and how often the question is put. The answer is
 // "no", or "yes" with how many choices are taken and the sum of their numbers.
+#![tactic(auto)]
+
 use anyhow::anyhow;
 use deciding::{Kind, Search};
 use design::SolverFault;

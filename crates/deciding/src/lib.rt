@@ -1,5 +1,7 @@
 // Every kind of solver over a lent store: assumptions become values, the kind's own search runs, and
 // a setting that it finds is held.
+#![tactic(auto)]
+
 mod kind;
 mod search;
 

@@ -1,4 +1,6 @@
 // Reads a job, which is a sequence of commands in bytes, one command at a time.
+#![tactic(auto)]
+
 mod command;
 mod read;
 #[cfg(test)]

@@ -1,6 +1,8 @@
 // The subject's words: marks, rules, prices, costs, plans and points, and the faults of judges and
 // solvers.
 // The definitions stand in specs/; the code here is what every layer shares of them.
+#![tactic(auto)]
+
 mod fault;
 mod mark;
 mod price;

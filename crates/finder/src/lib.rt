@@ -1,4 +1,6 @@
 // The finder: a design written whole into a solver, and its plans within two bounds found there.
+#![tactic(auto)]
+
 mod book;
 mod decide;
 mod held;

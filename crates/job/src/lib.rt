@@ -1,4 +1,6 @@
 // A job on a planner: what each command does and answers. It is one text for every way to make a judge.
+#![tactic(auto)]
+
 mod commands;
 mod drive;
 mod fault;

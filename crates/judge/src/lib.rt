@@ -1,5 +1,7 @@
 // The judge: what every layer above stands on. It keeps a design's rules and prices, finds plans
 // within two bounds and tells a word's costs. Its meaning is published mathematics, in `design`.
+#![tactic(auto)]
+
 mod sizes;
 
 ghost use Rattle.std.specs.Prelude.{◌≡◌, ℕ, ◌%◌, ◌^◌, ◌≤◌, length};

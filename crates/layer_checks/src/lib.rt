@@ -1,3 +1,5 @@
 // Piles of layers over the plain judge against the full sweep: tests alone.
+#![tactic(auto)]
+
 #[cfg(test)]
 mod tests;

@@ -1,5 +1,7 @@
 // The samples through layers, proved: what runs of a small design list under limits and with its
 // costs exchanged.
+#![tactic(auto)]
+
 ghost use Rattle.std.specs.Prelude.{◌≡◌, length};
 ghost use Rattle.layer_samples.specs.Designs.{LayerSamplesHold, samples_of_layers};
 

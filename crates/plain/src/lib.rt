@@ -1,5 +1,7 @@
 // The plain judge: it searches settings itself, and drops a part as soon as a rule is broken or a
 // cost is past its bound. Its limits are the tops of its scales.
+#![tactic(auto)]
+
 mod search;
 mod state;
 

@@ -1,4 +1,6 @@
 // Runs a job from standard input on the plain judge, with hours for cost A and needles for cost B.
+#![tactic(auto)]
+
 #[cfg(test)]
 mod tests;
 

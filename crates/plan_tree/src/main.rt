@@ -1,5 +1,7 @@
 // Runs a job from standard input on the tree over the settling solver, with hours for cost A and
 // needles for cost B. All but the set-up is shared with the program on the plain judge.
+#![tactic(auto)]
+
 mod lender;
 mod maker;
 #[cfg(test)]

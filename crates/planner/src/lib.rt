@@ -1,5 +1,7 @@
 // The planner: it lists every trade-off that no plan beats, each with a plan, on any judge. Each call
 // promises that it carries any run that led to the planner on, lawfully.
+#![tactic(auto)]
+
 mod call;
 mod entry;
 mod halve;

@@ -1,4 +1,6 @@
 // The planner on the plain judge against the full sweep: tests alone.
+#![tactic(auto)]
+
 #[cfg(test)]
 mod draws;
 #[cfg(test)]

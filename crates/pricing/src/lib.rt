@@ -1,5 +1,7 @@
 // The prices of a cost: what a word costs, what a bound excludes, and what a plan costs at least. All
 // of it is one text for every scale.
+#![tactic(auto)]
+
 mod bound;
 mod list;
 mod table;

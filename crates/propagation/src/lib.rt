@@ -1,5 +1,7 @@
 // Rules as bit masks, and what they make of a partial setting: propagation of a rule's last open
 // mark, choices that need no trial, and the split of what is left into two halves.
+#![tactic(auto)]
+
 mod partial;
 mod rule;
 mod trial;

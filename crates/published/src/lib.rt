@@ -1,6 +1,8 @@
 // The planner's meaning in the literature's words. A judge's rules and prices are an instance of
 // multi-objective MaxSAT, and a word is an assignment: what the calls here answer is stated by the
 // literature's definitions, which stand apart from the design's in specs/Literature.antt.
+#![tactic(auto)]
+
 ghost use Rattle.std.specs.Prelude.{◌≡◌, ◌%◌, ◌^◌, Decides};
 ghost use Rattle.design.specs.Plan.{Sought, Beats};
 ghost use Rattle.published.specs.Literature.{Instance, Assignment, Dominates};

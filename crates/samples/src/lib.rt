@@ -1,4 +1,6 @@
 // The samples, proved: what runs of small designs list, in one list with one proof for all.
+#![tactic(auto)]
+
 ghost use Rattle.std.specs.Prelude.{◌≡◌, ◌+◌, length};
 ghost use Rattle.samples.specs.Designs.{SamplesHold, samples, joins};
 

@@ -1,5 +1,7 @@
 // Scales: the kinds of cost. A scale has values in rising order, numbered by their places from 0 to
 // its top, and joins two values into one. Everything above is one text for every scale.
+#![tactic(auto)]
+
 mod values;
 
 ghost use Rattle.std.specs.Prelude.{◌≡◌, ℕ};

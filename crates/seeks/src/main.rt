@@ -3,6 +3,8 @@
 // marks and the marks; the number of prices in A and of each the mark and the place; the same for B;
 // then to the end the bounds of a seek, two bytes, and how often it is put, one byte. Each is answered
 // by a line: the bounds, and the word or "none".
+#![tactic(auto)]
+
 use anyhow::anyhow;
 use judge::{Judge, check_sizes};
 use plain::{Plain, Room};

@@ -1,5 +1,7 @@
 // The solver: it keeps clauses over numbered choices and decides whether a setting meets them all
 // under assumptions. Judges that write a design as clauses stand on any of its kinds.
+#![tactic(auto)]
+
 mod check;
 mod mark;
 

@@ -1,5 +1,7 @@
 // Solvers of any kind beside a full sweep over all settings, which shares no code with them: tests
 // alone.
+#![tactic(auto)]
+
 #[cfg(test)]
 mod drill;
 #[cfg(test)]

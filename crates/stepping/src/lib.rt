@@ -1,5 +1,7 @@
 // The stepping solver: it goes through the choices in number order and tests each clause once it is
 // decided, that is, once its highest choice has a value.
+#![tactic(auto)]
+
 mod walk;
 
 ghost use Rattle.sweeping.specs.Trail.{Ready};

@@ -1,5 +1,7 @@
 // The store that a solver is lent: clauses, the held setting, a trail and values in one slice of
 // numbers, the writing of clauses into it and their reading.
+#![tactic(auto)]
+
 mod sizes;
 mod store;
 

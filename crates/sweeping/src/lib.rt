@@ -1,5 +1,7 @@
 // Propagation in a store: sweeps over the clauses that give a value to each clause's last open mark,
 // a trail of the marks settled, and the way back along it.
+#![tactic(auto)]
+
 mod layout;
 
 ghost use Rattle.std.specs.Prelude.{◌≡◌, ℕ, ◌+◌, ◌-◌, ◌<◌, ◌≤◌, true, length, take, pos, slice_index_or, slice_set, unsigned_abs};

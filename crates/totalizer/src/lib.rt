@@ -2,6 +2,7 @@
 // the prices of a cost, and extra choices say of each node that it costs at least a place. What is
 // proved of that encoding stands here, once for every scale; the contracts of the finder and the tree
 // name it.
+#![tactic(auto)]
 
 // What stands for "the node costs at least this place".
 #[derive(Clone, Copy)]

@@ -1,5 +1,7 @@
 // A tour of the library on one design, a lace edging: rules and prices go in, one of them is refused,
 // and plans are looked for within several bounds. Each action is printed with its answer.
+#![tactic(auto)]
+
 use anyhow::anyhow;
 use design::JudgeFault;
 use judge::{Judge, check_sizes};

@@ -1,6 +1,7 @@
 // The tree: a judge that writes its design as clauses for a solver, any solver, and lets it decide.
 // The prices of each cost are joined by a tree of extra choices, and a bound assumes that every
 // place of the root above it is false. Its limits are the tops of its scales.
+#![tactic(auto)]
 
 ghost use Rattle.std.specs.Prelude.{◌≡◌, ℕ, ◌+◌, ◌-◌, ◌*◌, ◌≤◌};
 ghost use Rattle.design.specs.Plan.{Sought};

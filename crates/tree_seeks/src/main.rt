@@ -4,6 +4,8 @@
 // marks and the marks; the number of prices in A and of each the mark and the place; the same for B;
 // then to the end the bounds of a seek, two bytes, and how often it is put, one byte. Each is answered
 // by a line: the bounds, and the word or "none".
+#![tactic(auto)]
+
 use anyhow::anyhow;
 use deciding::{Kind, Search};
 use judge::{Judge, Sizes, check_sizes};

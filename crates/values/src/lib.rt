@@ -1,5 +1,7 @@
 // Values of some of the choices: what they say of a mark and of a clause. A value above 0 says that
 // its choice is taken, one below 0 that it is left, and 0 that it is open.
+#![tactic(auto)]
+
 ghost use Rattle.std.specs.Prelude.{◌≡◌, true, length};
 ghost use Rattle.design.specs.Mark.{named, all_are_named, bit_of};
 ghost use Rattle.values.specs.Partial.{said, truth_in, value_that_holds, value_that_fails, first_left, with_open, state_from};

@@ -1,5 +1,7 @@
 // Views of one design: the list of a lace edging by hours, by needles and under limits, each from a
 // whole run of the planner on a pile of layers over the plain judge, and the last over the tree too.
+#![tactic(auto)]
+
 mod pile;
 
 use anyhow::anyhow;

@@ -1,6 +1,8 @@
 // The writer: the clauses of one cost, written into any solver, and the assumptions of a bound on it.
 // Children are written before the nodes that join them, so that one sweep over the clauses carries
 // what the prices' marks say up to the root.
+#![tactic(auto)]
+
 ghost use Rattle.std.specs.Prelude.{◌≡◌, ℕ, ◌+◌, ◌-◌, ◌*◌, ◌^◌, ◌<◌, ◌≤◌, [], ◌∷◌, ◌++◌, length, take};
 ghost use Rattle.solver.specs.State.{with_clauses};
 ghost use Rattle.totalizer.specs.Clauses.{number, literal, joins_to, pair, row, grid, tree, assumed};
