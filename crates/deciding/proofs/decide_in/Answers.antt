@@ -17,4 +17,4 @@ returns-then-not-search g c =
 pub returns : goal.returns
 returns g c =
     concluded_found c.args.layout.now c.args.room c.args.store.now c.args.assumptions.now c.requires.stored c.requires.place c.prepare.new.store c.prepare.ensures.front
-    c.search.new.store c.copy-down.new.cells c.if-not-prepare.ensures.answer c.if-not-search.ensures c.copy-down.ensures
+    c.search.new.store c.copy_down.new.cells c.if-not-prepare.ensures.answer c.if-not-search.ensures c.copy_down.ensures

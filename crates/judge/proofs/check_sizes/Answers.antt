@@ -5,8 +5,8 @@ use Rattle.judge.proofs.check_sizes.Goals as goal
 pub returns-then-choices-lt1 : goal.returns-then-choices-lt1
 returns-then-choices-lt1 c = grind (arith, nat_tests)
 
-pub returns-then-price-room-lt1 : goal.returns-then-price-room-lt1
-returns-then-price-room-lt1 c = grind (arith, nat_tests)
+pub returns-then-price_room-lt1 : goal.returns-then-price_room-lt1
+returns-then-price_room-lt1 c = grind (arith, nat_tests)
 
 pub returns : goal.returns
 returns c = grind (arith, nat_tests)

@@ -10,10 +10,10 @@ use Rattle.propagation.proofs.sweep.Goals as goal
 pub loop-rule-init : goal.loop-rule-init
 loop-rule-init c = (narrow_same (Met c.args.rules.now) c.args.at.up c.args.at.down, λ _ _. alive_none c.args.at.up c.args.at.down)
 
-pub returns-in-err-here : goal.returns-in-err-here
-returns-in-err-here c =
+pub returns-in_err-here : goal.returns-in_err-here
+returns-in_err-here c =
     subst (Swept c.args.rules.now c.args.at) (sym c.from-residual.ensures)
-    (λ w a m. c.in-err-here.ensures w (c.loop-rule.invariant.0.keeps w a m)
+    (λ w a m. c.in_err-here.ensures w (c.loop-rule.invariant.0.keeps w a m)
     (item_hit c.args.rules.now c.loop-rule.rule-index c.rule-item.result c.rule-item.is c.loop-rule-test.true w m))
 
 pub loop-rule-preserved : goal.loop-rule-preserved
@@ -21,8 +21,8 @@ loop-rule-preserved c =
     let r = c.rule-item.result in
     let p = c.args.at in
     let here = c.loop-rule.here in
-    let next = c.in-ok-here.here in
-    let q = c.in-ok-here.ensures in
+    let next = c.in_ok-here.here in
+    let q = c.in_ok-here.ensures in
     let n = c.loop-rule.invariant.0 in
     let h = item_hit c.args.rules.now c.loop-rule.rule-index r c.rule-item.is c.loop-rule-test.true in (
       narrow_more (Met c.args.rules.now) (Hit r.ups r.downs) p.up p.down here.up here.down next.up next.down h n q.0,

@@ -12,4 +12,4 @@ returns c =
     let s = c.args.store.now in
     let n : l.values + l.choices - l.values ≡ l.choices = omega arith in
     let v : take (l.values + l.choices - l.values) (drop l.values s) ≡ values_in s l = ap (λ x. take x (drop l.values s)) n in
-    c.state_of.ensures ∙ (ap (λ x. state_from x Broken c.marks-at.result.now) v ∙ ap (state_from (values_in s l) Broken) c.marks-at.ensures)
+    c.state_of.ensures ∙ (ap (λ x. state_from x Broken c.marks_at.result.now) v ∙ ap (state_from (values_in s l) Broken) c.marks_at.ensures)

@@ -35,7 +35,7 @@ loop-at-preserved c =
     let s₀ = c.args.store.now in
     let z = get_or c.loop-at.store c.loop-at.at (pos 0) in
     let f : SFits w16 z = search rules in
-    let e = c.unsigned-abs.ensures.value ∙ ap nat_abs (to_z-of_z w16 z f) in
+    let e = c.unsigned_abs.ensures.value ∙ ap nat_abs (to_z-of_z w16 z f) in
     subst (λ x. Going l s₀ c.args.start c.visit.new.store (c.loop-at.at + 1 + x) c.in-Some.further) (sym e)
     (going_on l s₀ c.loop-at.store c.visit.new.store c.args.start c.loop-at.at c.loop-at.sweep c.in-Some.further c.requires c.loop-at.invariant c.loop-at-test.true c.in-Some.ensures)
 

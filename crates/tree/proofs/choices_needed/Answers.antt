@@ -6,12 +6,12 @@ use Rattle.tree.proofs.choices_needed.Goals as goal
 
 pub overflow-mul-result : goal.overflow-mul-result
 overflow-mul-result g c =
-    let h = few_extra (c.args.sizes.price_room - 1) (c.top-place.result + c.top-place-2.result) (omega (arith, c.args.sizes.few_prices)) (omega (arith, g.A.Scale.laws.high, g.B.Scale.laws.high)) in
+    let h = few_extra (c.args.sizes.price_room - 1) (c.top_place.result + c.top_place-2.result) (omega (arith, c.args.sizes.few_prices)) (omega (arith, g.A.Scale.laws.high, g.B.Scale.laws.high)) in
     record { fits = omega arith }
 
 pub overflow-add-result : goal.overflow-add-result
 overflow-add-result g c =
-    let h = few_extra (c.args.sizes.price_room - 1) (c.top-place.result + c.top-place-2.result) (omega (arith, c.args.sizes.few_prices)) (omega (arith, g.A.Scale.laws.high, g.B.Scale.laws.high)) in
+    let h = few_extra (c.args.sizes.price_room - 1) (c.top_place.result + c.top_place-2.result) (omega (arith, c.args.sizes.few_prices)) (omega (arith, g.A.Scale.laws.high, g.B.Scale.laws.high)) in
     record { fits = omega (arith, c.args.sizes.few_choices) }
 
 pub returns : goal.returns

@@ -10,8 +10,8 @@ use Rattle.values.proofs.state_of.Goals as goal
 pub returns-in-empty : goal.returns-in-empty
 returns-in-empty c = state_none c.args.values.now c.loop-left.left.now c.loop-left.state (omega (arith, ltb-true)) ∙ c.loop-left.invariant.1
 
-pub truth-of-requires : goal.truth-of-requires
-truth-of-requires c =
+pub truth_of-requires : goal.truth_of-requires
+truth_of-requires c =
     let z = get_or c.loop-left.left.now 0 (pos 0) in
     let f : SFits w16 z = search rules in
     ap (named (length c.args.values.now)) (to_z-of_z w16 z f) ∙ (first_named (length c.args.values.now) c.loop-left.left.now (omega (arith, ltb-false)) c.loop-left.invariant.0).0
@@ -37,7 +37,7 @@ loop-left-preserved c =
     let z = get_or c.loop-left.left.now 0 (pos 0) in
     let f : SFits w16 z = search rules in
     let y = c.in-Open.ensures ∙ ap (truth_in c.args.values.now) (to_z-of_z w16 z f) in
-    let o = c.with-open-state.ensures ∙ ap (with_open c.loop-left.state) (to_z-of_z w16 z f) in (
+    let o = c.with_open-state.ensures ∙ ap (with_open c.loop-left.state) (to_z-of_z w16 z f) in (
       (first_named (length c.args.values.now) c.loop-left.left.now (omega (arith, ltb-false)) c.loop-left.invariant.0).1,
       ap (λ x. state_from c.args.values.now x (between 1 (length c.loop-left.left.now) c.loop-left.left.now)) o
           ∙ (sym (state_by c.args.values.now c.loop-left.left.now c.loop-left.state Open (omega (arith, ltb-false)) y) ∙ c.loop-left.invariant.1),

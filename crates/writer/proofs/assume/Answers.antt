@@ -15,17 +15,17 @@ loop-above-preserved c =
     let j : c.args.bound + suc c.loop-above.above ≡ c.args.bound + 1 + c.loop-above.above = omega arith in
     let t : g c.loop-above.above ≡ denial c.literal_of.result =
     ap (λ (k : ℕ). denial (literal c.args.top c.args.base c.args.prices.now 1 k)) j ∙ sym (ap denial c.literal_of.ensures.is) in
-    elim c.match-literal-of.branch [
+    elim c.match-literal_of.branch [
       | in-Mark w ↦ (
         omega (arith, w.used-is),
         omega (arith, w.used-is),
-        said_more c.loop-above.marks c.match-literal-of.marks (take c.args.from c.args.marks.now) c.loop-above.used c.match-literal-of.used c.loop-above.above
+        said_more c.loop-above.marks c.match-literal_of.marks (take c.args.from c.args.marks.now) c.loop-above.used c.match-literal_of.used c.loop-above.above
             w.in-Mark.mark _ c.literal_of.result g c.loop-above.invariant.2 (omega arith) w.marks-is w.used-is (turned w.in-Mark.mark (subst Short w.in-Mark.is c.literal_of.ensures.short)) w.in-Mark.is t,
       )
       | in-default w ↦ (
         omega (arith, w.used-is),
         omega (arith, w.used-is),
-        quiet_more c.loop-above.marks c.match-literal-of.marks (take c.args.from c.args.marks.now) c.loop-above.used c.match-literal-of.used c.loop-above.above
+        quiet_more c.loop-above.marks c.match-literal_of.marks (take c.args.from c.args.marks.now) c.loop-above.used c.match-literal_of.used c.loop-above.above
             c.literal_of.result g c.loop-above.invariant.2 w.marks-is w.used-is w.in-default.not-Mark t,
       )
     ]

@@ -5,12 +5,12 @@ use Rattle.totalizer.specs.Clauses.{literal, number}
 use Rattle.totalizer.proofs.Sizes.{number_last}
 use Rattle.writer.proofs.literal_of.Goals as goal
 
-pub number-of-requires : goal.number-of-requires
-number-of-requires c = omega (arith, number_last c.args.base c.args.top (length c.args.prices.now) c.args.node c.args.place)
+pub number_of-requires : goal.number_of-requires
+number_of-requires c = omega (arith, number_last c.args.base c.args.top (length c.args.prices.now) c.args.node c.args.place)
 
 pub overflow-cast-result : goal.overflow-cast-result
 overflow-cast-result c =
-    let h : c.number-of.result < 32768 = omega (arith, number_last c.args.base c.args.top (length c.args.prices.now) c.args.node c.args.place) in
+    let h : c.number_of.result < 32768 = omega (arith, number_last c.args.base c.args.top (length c.args.prices.now) c.args.node c.args.place) in
     search rules
 
 pub returns-then-place-eq0 : goal.returns-then-place-eq0
@@ -20,7 +20,7 @@ returns-then-place-eq0 c = grind (arith, nat_tests)
 pub returns-then-node-prices : goal.returns-then-node-prices
 unfolding literal
 returns-then-node-prices c =
-    let h : c.number-of.result < 32768 = omega (arith, number_last c.args.base c.args.top (length c.args.prices.now) c.args.node c.args.place) in
+    let h : c.number_of.result < 32768 = omega (arith, number_last c.args.base c.args.top (length c.args.prices.now) c.args.node c.args.place) in
     grind (arith, nat_tests, to_z_pos)
 
 pub returns-then-place-price : goal.returns-then-place-price

@@ -7,9 +7,9 @@ use Rattle.writer.proofs.write_node.Goals as goal
 pub loop-left-init : goal.loop-left-init
 loop-left-init g c = wrote_start _ _
 
-pub write-row-requires : goal.write-row-requires
+pub write_row-requires : goal.write_row-requires
 unfolding grid
-write-row-requires g c =
+write_row-requires g c =
     let s = g.C.Scale in
     record {
       inner = c.requires.inner;
@@ -23,9 +23,9 @@ write-row-requires g c =
 pub loop-left-preserved : goal.loop-left-preserved
 loop-left-preserved g c =
     let s = g.C.Scale in
-    wrote_more (g.S.Solver.meaning c.args.solver.now) (g.S.Solver.meaning c.loop-left.solver) (g.S.Solver.meaning c.write-row.new.solver)
+    wrote_more (g.S.Solver.meaning c.args.solver.now) (g.S.Solver.meaning c.loop-left.solver) (g.S.Solver.meaning c.write_row.new.solver)
     (row s.places c.args.base c.args.prices.now c.args.node) c.loop-left.left
-    c.loop-left.invariant c.write-row.ensures
+    c.loop-left.invariant c.write_row.ensures
 
 pub returns : goal.returns
 unfolding grid

@@ -7,9 +7,9 @@ use Rattle.writer.proofs.write_row.Goals as goal
 pub loop-right-init : goal.loop-right-init
 loop-right-init g c = wrote_start _ _
 
-pub write-pair-requires : goal.write-pair-requires
+pub write_pair-requires : goal.write_pair-requires
 unfolding row
-write-pair-requires g c =
+write_pair-requires g c =
     let s = g.C.Scale in
     record {
       inner = c.requires.inner;
@@ -23,9 +23,9 @@ write-pair-requires g c =
 pub loop-right-preserved : goal.loop-right-preserved
 loop-right-preserved g c =
     let s = g.C.Scale in
-    wrote_more (g.S.Solver.meaning c.args.solver.now) (g.S.Solver.meaning c.loop-right.solver) (g.S.Solver.meaning c.write-pair.new.solver)
+    wrote_more (g.S.Solver.meaning c.args.solver.now) (g.S.Solver.meaning c.loop-right.solver) (g.S.Solver.meaning c.write_pair.new.solver)
     (pair s.places c.args.base c.args.prices.now c.args.node c.args.left) c.loop-right.right
-    c.loop-right.invariant c.write-pair.ensures
+    c.loop-right.invariant c.write_pair.ensures
 
 pub returns : goal.returns
 unfolding row

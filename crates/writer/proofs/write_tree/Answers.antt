@@ -8,9 +8,9 @@ use Rattle.writer.proofs.write_tree.Goals as goal
 pub loop-done-init : goal.loop-done-init
 loop-done-init g c = (omega arith, wrote_start _ _)
 
-pub write-node-requires : goal.write-node-requires
+pub write_node-requires : goal.write_node-requires
 unfolding tree
-write-node-requires g c =
+write_node-requires g c =
     let s = g.C.Scale in
     let m = g.S.Solver.meaning in
     let e : length c.args.prices.now - suc (c.loop-done.done - 1) ≡ length c.args.prices.now - c.loop-done.done = omega arith in
@@ -29,10 +29,10 @@ loop-done-preserved g c =
     let e : length c.args.prices.now - c.loop-done.done ≡ length c.args.prices.now - suc (c.loop-done.done - 1) = omega arith in
     let d : c.loop-done.done - 1 + 1 ≡ c.loop-done.done + 1 - 1 = omega arith in (
       omega arith,
-      subst (λ (k : ℕ). m c.write-node.new.solver ≡ with_clauses (m c.args.solver.now) (gather (from_last s.places c.args.base c.args.prices.now) k)) d
-          (wrote_more (m c.args.solver.now) (m c.loop-done.solver) (m c.write-node.new.solver) (from_last s.places c.args.base c.args.prices.now) (c.loop-done.done - 1)
+      subst (λ (k : ℕ). m c.write_node.new.solver ≡ with_clauses (m c.args.solver.now) (gather (from_last s.places c.args.base c.args.prices.now) k)) d
+          (wrote_more (m c.args.solver.now) (m c.loop-done.solver) (m c.write_node.new.solver) (from_last s.places c.args.base c.args.prices.now) (c.loop-done.done - 1)
           c.loop-done.invariant.1
-          (subst (λ (k : ℕ). m c.write-node.new.solver ≡ with_clauses (m c.loop-done.solver) (grid s.places c.args.base c.args.prices.now k)) e c.write-node.ensures)),
+          (subst (λ (k : ℕ). m c.write_node.new.solver ≡ with_clauses (m c.loop-done.solver) (grid s.places c.args.base c.args.prices.now k)) e c.write_node.ensures)),
     )
 
 pub returns : goal.returns

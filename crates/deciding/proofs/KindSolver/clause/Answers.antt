@@ -11,23 +11,23 @@ use Rattle.store.proofs.Clauses.{wrote, one_more, more_sound, named_more, part_k
 use Rattle.store.proofs.Answering.{passed, same_solving}
 use Rattle.deciding.proofs.KindSolver.clause.Goals as goal
 
-pub returns-in-err-check-clause : goal.returns-in-err-check-clause
+pub returns-in_err-check_clause : goal.returns-in_err-check_clause
 unfolding clause_answer
-returns-in-err-check-clause g c =
+returns-in_err-check_clause g c =
     let s = c.args.self.now in
     let u = units_sound s.store.cells.now s.store.used s.sound (omega arith) in
     let p = err_from_is_err_and c.from-residual.result c.from-residual.ensures.1 in
     rw (p.1, p.2)
     (record {
-      answer = c.in-err-check-clause.ensures ∙ ap (λ (n : ℕ). clause_check s.choices s.room n c.args.marks.now) (sym u);
+      answer = c.in_err-check_clause.ensures ∙ ap (λ (n : ℕ). clause_check s.choices s.room n c.args.marks.now) (sym u);
       after = refl;
     })
 
-pub invariant-of-self : goal.invariant-of-self
-invariant-of-self g c =
+pub invariant_of-self : goal.invariant_of-self
+invariant_of-self g c =
     let s = c.args.self.now in
     let ms = c.args.marks.now in
-    let p = passed s.choices s.room s.store.used ms c.in-ok-check-clause.ensures in
+    let p = passed s.choices s.room s.store.used ms c.in_ok-check_clause.ensures in
     let e = one_more s.store.cells.now c.put.new.self.cells.now ms s.store.used c.put.new.self.used s.sound (wrote s.store.cells.now c.put.new.self.cells.now ms s.store.used c.put.new.self.used (omega arith) c.put.ensures.used c.put.ensures.cells) in (
       s.some,
       (
@@ -54,10 +54,10 @@ returns g c =
     let s = c.args.self.now in
     let ms = c.args.marks.now in
     let u = units_sound s.store.cells.now s.store.used s.sound (omega arith) in
-    let p = passed s.choices s.room s.store.used ms c.in-ok-check-clause.ensures in
+    let p = passed s.choices s.room s.store.used ms c.in_ok-check_clause.ensures in
     let e = one_more s.store.cells.now c.put.new.self.cells.now ms s.store.used c.put.new.self.used s.sound (wrote s.store.cells.now c.put.new.self.cells.now ms s.store.used c.put.new.self.used (omega arith) c.put.ensures.used c.put.ensures.cells) in
     let h = ap (λ x. part x s.room s.choices) c.put.ensures.cells ∙ part_kept s.store.cells.now (encode ms) s.store.used s.room s.choices (omega arith) (omega (arith, p.fits)) in
     record {
-      answer = c.in-ok-check-clause.ensures ∙ ap (λ (n : ℕ). clause_check s.choices s.room n ms) (sym u);
+      answer = c.in_ok-check_clause.ensures ∙ ap (λ (n : ℕ). clause_check s.choices s.room n ms) (sym u);
       after = same_solving s.choices s.room e (ap (map is_taken) h);
     }

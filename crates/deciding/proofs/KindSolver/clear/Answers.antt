@@ -5,8 +5,8 @@ use Rattle.store.proofs.Clauses.{no_clauses, encode_none, named_none}
 use Rattle.store.proofs.Answering.{same_solving}
 use Rattle.deciding.proofs.KindSolver.clear.Goals as goal
 
-pub invariant-of-self : goal.invariant-of-self
-invariant-of-self g c =
+pub invariant_of-self : goal.invariant_of-self
+invariant_of-self g c =
     let s = c.args.self.now in
     let e = no_clauses s.store.cells.now in
     (tt, (s.some, (s.few, (omega arith, (s.high, (ap encode_all e ∙ encode_none, (ap (clauses_named s.choices) e ∙ named_none s.choices, tt)))))))

@@ -4,17 +4,17 @@ use Rattle.deciding.specs.Held.{stored_of, kind_meaning}
 use Rattle.deciding.proofs.Conclusions.{concluded_stored, decided}
 use Rattle.deciding.proofs.KindSolver.decide.Goals as goal
 
-pub invariant-of-self : goal.invariant-of-self
-invariant-of-self g c =
+pub invariant_of-self : goal.invariant_of-self
+invariant_of-self g c =
     let s = c.args.self.now in
-    let s' = c.decide-by.new.store in
-    let after = concluded_stored s.store.cells.now s'.cells.now s.store.used s.choices s.room c.args.assumptions.now c.decide-by.result (stored_of s) c.decide-by.ensures.answer in
-    let r : Stored s'.cells.now s'.used s.choices s.room = subst (λ u. Stored s'.cells.now u s.choices s.room) (sym c.decide-by.ensures.used) after in
+    let s' = c.decide_by.new.store in
+    let after = concluded_stored s.store.cells.now s'.cells.now s.store.used s.choices s.room c.args.assumptions.now c.decide_by.result (stored_of s) c.decide_by.ensures.answer in
+    let r : Stored s'.cells.now s'.used s.choices s.room = subst (λ u. Stored s'.cells.now u s.choices s.room) (sym c.decide_by.ensures.used) after in
     (r.some_choice, (r.few_choices, (r.low, (r.high, (r.sound, (r.named, tt))))))
 
 pub returns : goal.returns
 returns g c =
     let s = c.args.self.now in
-    let s' = c.decide-by.new.store in
-    decided kind_meaning s _ s.store.cells.now s'.cells.now s.store.used s'.used s.choices s.room c.args.assumptions.now c.decide-by.result
-    refl refl c.decide-by.ensures.used (sym c.if-not-all-named.ensures) (stored_of s) c.decide-by.ensures.answer
+    let s' = c.decide_by.new.store in
+    decided kind_meaning s _ s.store.cells.now s'.cells.now s.store.used s'.used s.choices s.room c.args.assumptions.now c.decide_by.result
+    refl refl c.decide_by.ensures.used (sym c.if-not-all_named.ensures) (stored_of s) c.decide_by.ensures.answer

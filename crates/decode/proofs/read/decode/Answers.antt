@@ -9,5 +9,5 @@ returns-then-at-job c =
     let job = c.args.job.now in
     let at = c.args.at in
     let small : Small job = λ i. search rules in
-    let s : Some c.read-command.result ≡ command_at job at = search (rules, stands) in
+    let s : Some c.read_command.result ≡ command_at job at = search (rules, stands) in
     record { says = s; advances = advancing job at _ s; spells = spells job at _ small s }

@@ -8,18 +8,18 @@ use Rattle.design.proofs.mark.+all_named.Goals as goal
 pub returns-in-empty : goal.returns-in-empty
 returns-in-empty t c = sym (all_none c.args.n c.args.marks.now (omega (arith, ltb-true)))
 
-pub returns-else-is-named : goal.returns-else-is-named
-returns-else-is-named t c =
+pub returns-else-is_named : goal.returns-else-is_named
+returns-else-is_named t c =
     let z = get_or c.args.marks.now 0 (pos 0) in
     let f : SFits w8 z = search rules in
-    let e = c.is-named.ensures ∙ ap (named c.args.n) (to_z-of_z w8 z f) in
+    let e = c.is_named.ensures ∙ ap (named c.args.n) (to_z-of_z w8 z f) in
     let k = all_first c.args.n c.args.marks.now (omega (arith, ltb-false)) in
-    c.if-is-named.false ∙ sym (k ∙ ap (λ x. x && all_are_named c.args.n (between 1 (length c.args.marks.now) c.args.marks.now)) (sym e ∙ c.if-is-named.false))
+    c.if-is_named.false ∙ sym (k ∙ ap (λ x. x && all_are_named c.args.n (between 1 (length c.args.marks.now) c.args.marks.now)) (sym e ∙ c.if-is_named.false))
 
-pub returns-then-is-named : goal.returns-then-is-named
-returns-then-is-named t c =
+pub returns-then-is_named : goal.returns-then-is_named
+returns-then-is_named t c =
     let z = get_or c.args.marks.now 0 (pos 0) in
     let f : SFits w8 z = search rules in
-    let e = c.is-named.ensures ∙ ap (named c.args.n) (to_z-of_z w8 z f) in
+    let e = c.is_named.ensures ∙ ap (named c.args.n) (to_z-of_z w8 z f) in
     let k = all_first c.args.n c.args.marks.now (omega (arith, ltb-false)) in
-    c.all_named.ensures ∙ sym (k ∙ ap (λ x. x && all_are_named c.args.n (between 1 (length c.args.marks.now) c.args.marks.now)) (sym e ∙ c.if-is-named.true))
+    c.all_named.ensures ∙ sym (k ∙ ap (λ x. x && all_are_named c.args.n (between 1 (length c.args.marks.now) c.args.marks.now)) (sym e ∙ c.if-is_named.true))

@@ -6,8 +6,8 @@ use Rattle.plain.specs.Held.{pair_of, meaning_of}
 use Rattle.finder.proofs.Booking.{design_of, small_a, small_b, takes_rules, ruled, takes_a, past_tree, takes_b, all_written}
 use Rattle.finder.proofs.book.write_book.Goals as goal
 
-pub write-rules-requires : goal.write-rules-requires
-write-rules-requires g c =
+pub write_rules-requires : goal.write_rules-requires
+write_rules-requires g c =
     let a = g.A.Scale in
     let b = g.B.Scale in
     let s = pair_of a.places b.places in
@@ -17,8 +17,8 @@ write-rules-requires g c =
     let v = g.S.Solver.meaning c.args.solver.now in
     takes_rules s la lb (meaning_of s j) (design_of s j) v c.requires (g.S.Solver.meaning c.clear.new.self) c.rules.result.now c.clear.ensures (ap rules_of c.rules.ensures)
 
-pub write-tree-requires : goal.write-tree-requires
-write-tree-requires g c =
+pub write_tree-requires : goal.write_tree-requires
+write_tree-requires g c =
     let a = g.A.Scale in
     let b = g.B.Scale in
     let s = pair_of a.places b.places in
@@ -27,16 +27,16 @@ write-tree-requires g c =
     let j = c.args.book.now in
     let m = meaning_of s j in
     let v = g.S.Solver.meaning c.args.solver.now in
-    let v₂ = g.S.Solver.meaning c.write-rules.new.solver in
-    let r = ruled s la lb m (design_of s j) v c.requires (g.S.Solver.meaning c.clear.new.self) v₂ c.rules.result.now c.clear.ensures (ap rules_of c.rules.ensures) c.write-rules.ensures in
+    let v₂ = g.S.Solver.meaning c.write_rules.new.solver in
+    let r = ruled s la lb m (design_of s j) v c.requires (g.S.Solver.meaning c.clear.new.self) v₂ c.rules.result.now c.clear.ensures (ap rules_of c.rules.ensures) c.write_rules.ensures in
     let n = ap (λ (z : Sizes). z.choices) c.sizes.ensures in
     record {
       small = small_a s m (design_of s j) v (g.S.Solver.kept c.args.solver.now) c.requires.choices c.sizes.result.choices a.places.top c.prices_a.result.now n refl c.prices_a.ensures;
       takes = takes_a s la lb m (design_of s j) v c.requires v₂ c.sizes.result.choices c.prices_a.result.now r n c.prices_a.ensures;
     }
 
-pub write-tree-requires-2 : goal.write-tree-requires-2
-write-tree-requires-2 g c =
+pub write_tree-requires-2 : goal.write_tree-requires-2
+write_tree-requires-2 g c =
     let a = g.A.Scale in
     let b = g.B.Scale in
     let s = pair_of a.places b.places in
@@ -45,11 +45,11 @@ write-tree-requires-2 g c =
     let j = c.args.book.now in
     let m = meaning_of s j in
     let v = g.S.Solver.meaning c.args.solver.now in
-    let v₂ = g.S.Solver.meaning c.write-rules.new.solver in
-    let v₃ = g.S.Solver.meaning c.write-tree.new.solver in
-    let r = ruled s la lb m (design_of s j) v c.requires (g.S.Solver.meaning c.clear.new.self) v₂ c.rules.result.now c.clear.ensures (ap rules_of c.rules.ensures) c.write-rules.ensures in
+    let v₂ = g.S.Solver.meaning c.write_rules.new.solver in
+    let v₃ = g.S.Solver.meaning c.write_tree.new.solver in
+    let r = ruled s la lb m (design_of s j) v c.requires (g.S.Solver.meaning c.clear.new.self) v₂ c.rules.result.now c.clear.ensures (ap rules_of c.rules.ensures) c.write_rules.ensures in
     let n = ap (λ (z : Sizes). z.choices) c.sizes.ensures in
-    let h = past_tree s la lb m (design_of s j) v c.requires v₂ v₃ c.sizes.result.choices c.prices_a.result.now n c.prices_a.ensures c.write-tree.ensures in
+    let h = past_tree s la lb m (design_of s j) v c.requires v₂ v₃ c.sizes.result.choices c.prices_a.result.now n c.prices_a.ensures c.write_tree.ensures in
     record {
       small = small_b s m (design_of s j) v (g.S.Solver.kept c.args.solver.now) c.requires.choices c.past_a.result b.places.top c.prices_b.result.now c.past_a.ensures refl c.prices_b.ensures;
       takes = takes_b s la lb m (design_of s j) v c.requires v₂ v₃ c.past_a.result c.prices_b.result.now r h c.past_a.ensures c.prices_b.ensures;
@@ -65,9 +65,9 @@ returns g c =
     let j = c.args.book.now in
     let m = meaning_of s j in
     let v = g.S.Solver.meaning c.args.solver.now in
-    let v₂ = g.S.Solver.meaning c.write-rules.new.solver in
-    let v₃ = g.S.Solver.meaning c.write-tree.new.solver in
-    let r = ruled s la lb m (design_of s j) v c.requires (g.S.Solver.meaning c.clear.new.self) v₂ c.rules.result.now c.clear.ensures (ap rules_of c.rules.ensures) c.write-rules.ensures in
+    let v₂ = g.S.Solver.meaning c.write_rules.new.solver in
+    let v₃ = g.S.Solver.meaning c.write_tree.new.solver in
+    let r = ruled s la lb m (design_of s j) v c.requires (g.S.Solver.meaning c.clear.new.self) v₂ c.rules.result.now c.clear.ensures (ap rules_of c.rules.ensures) c.write_rules.ensures in
     let n = ap (λ (z : Sizes). z.choices) c.sizes.ensures in
-    let h = past_tree s la lb m (design_of s j) v c.requires v₂ v₃ c.sizes.result.choices c.prices_a.result.now n c.prices_a.ensures c.write-tree.ensures in
-    all_written s la lb m (design_of s j) v c.requires v₂ v₃ (g.S.Solver.meaning c.write-tree-2.new.solver) c.past_a.result c.prices_b.result.now r h c.past_a.ensures c.prices_b.ensures c.write-tree-2.ensures
+    let h = past_tree s la lb m (design_of s j) v c.requires v₂ v₃ c.sizes.result.choices c.prices_a.result.now n c.prices_a.ensures c.write_tree.ensures in
+    all_written s la lb m (design_of s j) v c.requires v₂ v₃ (g.S.Solver.meaning c.write_tree-2.new.solver) c.past_a.result c.prices_b.result.now r h c.past_a.ensures c.prices_b.ensures c.write_tree-2.ensures

@@ -9,8 +9,8 @@ use Rattle.finder.proofs.book.write_rules.Goals as goal
 pub loop-rule-init : goal.loop-rule-init
 loop-rule-init g c = rules_start _
 
-pub write-rule-requires : goal.write-rule-requires
-write-rule-requires g c =
+pub write_rule-requires : goal.write_rule-requires
+write_rule-requires g c =
     let rs = c.args.rules.now in
     let m = g.S.Solver.meaning in
     record {
@@ -24,7 +24,7 @@ loop-rule-preserved g c =
     let rs = c.args.rules.now in
     let m = g.S.Solver.meaning in
     rule_written rs c.loop-rule.rule-index c.rule-item.result c.loop-rule-test.true c.rule-item.is c.entered.result.now c.entered.ensures
-    (m c.args.solver.now) (m c.loop-rule.solver) (m c.write-rule.new.solver) c.loop-rule.invariant c.write-rule.ensures
+    (m c.args.solver.now) (m c.loop-rule.solver) (m c.write_rule.new.solver) c.loop-rule.invariant c.write_rule.ensures
 
 pub returns : goal.returns
 returns g c =

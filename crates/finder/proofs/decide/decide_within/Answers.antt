@@ -13,8 +13,8 @@ assume-middle-requires g c =
     let j = c.args.book.now in
     let h = g.A.Scale.laws.high in
     record {
-      small = small_a s (meaning_of s j) (design_of s j) (g.S.Solver.meaning c.args.solver.now) (g.S.Solver.kept c.args.solver.now) c.requires.choices c.sizes-own.result.choices c.top-place.result c.prices_a.result.now
-          (ap (λ (z : Sizes). z.choices) c.sizes-own.ensures) c.top-place.ensures c.prices_a.ensures;
+      small = small_a s (meaning_of s j) (design_of s j) (g.S.Solver.meaning c.args.solver.now) (g.S.Solver.kept c.args.solver.now) c.requires.choices c.sizes-own.result.choices c.top_place.result c.prices_a.result.now
+          (ap (λ (z : Sizes). z.choices) c.sizes-own.ensures) c.top_place.ensures c.prices_a.ensures;
       room = (omega arith, omega arith);
     }
 
@@ -26,8 +26,8 @@ assume-end-requires g c =
     let h' = g.B.Scale.laws.high in
     let l = c.assume-middle.auto in
     record {
-      small = small_b s (meaning_of s j) (design_of s j) (g.S.Solver.meaning c.args.solver.now) (g.S.Solver.kept c.args.solver.now) c.requires.choices c.past_a.result c.top-place-2.result c.prices_b.result.now
-          c.past_a.ensures c.top-place-2.ensures c.prices_b.ensures;
+      small = small_b s (meaning_of s j) (design_of s j) (g.S.Solver.meaning c.args.solver.now) (g.S.Solver.kept c.args.solver.now) c.requires.choices c.past_a.result c.top_place-2.result c.prices_b.result.now
+          c.past_a.ensures c.top_place-2.ensures c.prices_b.ensures;
       room = (omega arith, omega arith);
     }
 
@@ -40,8 +40,8 @@ unwrap-requires g c =
     let lb = place_laws b.places b.place b.at b.joined b.laws in
     let j = c.args.book.now in
     let m = meaning_of s j in
-    let e = bounds_are s m c.args.a c.args.b c.sizes-own.result.choices c.past_a.result c.top-place.result c.top-place-2.result c.prices_a.result.now c.prices_b.result.now
-    (ap (λ (z : Sizes). z.choices) c.sizes-own.ensures) c.top-place.ensures c.prices_a.ensures c.past_a.ensures c.top-place-2.ensures c.prices_b.ensures
+    let e = bounds_are s m c.args.a c.args.b c.sizes-own.result.choices c.past_a.result c.top_place.result c.top_place-2.result c.prices_a.result.now c.prices_b.result.now
+    (ap (λ (z : Sizes). z.choices) c.sizes-own.ensures) c.top_place.ensures c.prices_a.ensures c.past_a.ensures c.top_place-2.ensures c.prices_b.ensures
     c.assume-middle.result c.assume-end.result c.assume-middle.new.marks c.assume-end.new.marks c.assume-middle.ensures.writes c.assume-end.ensures.writes in
     is_answered g.S.Solver.meaning s la lb m (design_of s j) c.args.solver.now c.decide.new.self c.requires c.args.a c.args.b _ c.decide.result e c.decide.ensures
 
@@ -54,8 +54,8 @@ returns g c =
     let lb = place_laws b.places b.place b.at b.joined b.laws in
     let j = c.args.book.now in
     let m = meaning_of s j in
-    let e = bounds_are s m c.args.a c.args.b c.sizes-own.result.choices c.past_a.result c.top-place.result c.top-place-2.result c.prices_a.result.now c.prices_b.result.now
-    (ap (λ (z : Sizes). z.choices) c.sizes-own.ensures) c.top-place.ensures c.prices_a.ensures c.past_a.ensures c.top-place-2.ensures c.prices_b.ensures
+    let e = bounds_are s m c.args.a c.args.b c.sizes-own.result.choices c.past_a.result c.top_place.result c.top_place-2.result c.prices_a.result.now c.prices_b.result.now
+    (ap (λ (z : Sizes). z.choices) c.sizes-own.ensures) c.top_place.ensures c.prices_a.ensures c.past_a.ensures c.top_place-2.ensures c.prices_b.ensures
     c.assume-middle.result c.assume-end.result c.assume-middle.new.marks c.assume-end.new.marks c.assume-middle.ensures.writes c.assume-end.ensures.writes in
     record {
       answer = found g.S.Solver.meaning s la lb m (design_of s j) c.args.solver.now c.decide.new.self c.requires c.args.a c.args.b _ c.decide.result c.unwrap.result e c.unwrap.ensures c.decide.ensures;

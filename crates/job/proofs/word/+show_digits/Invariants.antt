@@ -1,4 +1,4 @@
 use Rattle.job.proofs.word.+show_digits.Given as goal
 
-abbrev pub decreases-show-digits : goal.decreases-show-digits
-decreases-show-digits g l = l.count
+abbrev pub decreases-show_digits : goal.decreases-show_digits
+decreases-show_digits g l = l.count

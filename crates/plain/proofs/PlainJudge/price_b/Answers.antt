@@ -10,15 +10,15 @@ use Rattle.plain.specs.Held.{pair_of}
 use Rattle.plain.proofs.Entering.{price_passed, same_answer, kept_price}
 use Rattle.plain.proofs.PlainJudge.price_b.Goals as goal
 
-pub returns-in-err-check-price : goal.returns-in-err-check-price
+pub returns-in_err-check_price : goal.returns-in_err-check_price
 unfolding price_b_answer
-returns-in-err-check-price g c =
+returns-in_err-check_price g c =
     let j = c.args.self.now in
     let p = err_from_is_err_and c.from-residual.result c.from-residual.ensures.1 in
     rw (p.1, p.2)
     (record {
-      answer = c.in-err-check-price.ensures
-          ∙ same_answer j.sizes.choices j.sizes.price_room c.args.place c.top-place.ensures c.as-slice.ensures (to_z-of_z w8 c.args.mark c.ranges.mark);
+      answer = c.in_err-check_price.ensures
+          ∙ same_answer j.sizes.choices j.sizes.price_room c.args.place c.top_place.ensures c.as_slice.ensures (to_z-of_z w8 c.args.mark c.ranges.mark);
       after = refl;
     })
 
@@ -27,15 +27,15 @@ push-requires g c =
     let j = c.args.self.now in
     let e = to_z-of_z w8 c.args.mark c.ranges.mark in
     let d = price_passed j.sizes.choices j.sizes.price_room g.B.Scale.places.top (vec_items j.prices_b.entries) c.args.mark c.args.place
-    (c.in-ok-check-price.ensures ∙ same_answer j.sizes.choices j.sizes.price_room c.args.place c.top-place.ensures c.as-slice.ensures e) in
+    (c.in_ok-check_price.ensures ∙ same_answer j.sizes.choices j.sizes.price_room c.args.place c.top_place.ensures c.as_slice.ensures e) in
     let v : vec_len j.prices_b.entries ≡ length (vec_items j.prices_b.entries) = j.prices_b.entries.ok.0 in
     record {
       named = ap (named 64) e ∙ named_up j.sizes.choices c.args.mark j.sizes.few_choices d.names;
       room = omega (arith, d.fits, j.b_memory, j.sizes.few_prices);
     }
 
-pub invariant-of-self : goal.invariant-of-self
-invariant-of-self g c =
+pub invariant_of-self : goal.invariant_of-self
+invariant_of-self g c =
     let j = c.args.self.now in
     let ps = vec_items j.prices_b.entries in
     let qs = vec_items c.push.new.self.entries in
@@ -43,7 +43,7 @@ invariant-of-self g c =
     let e = to_z-of_z w8 c.args.mark c.ranges.mark in
     let i : qs ≡ ps ++ p ∷ [] = c.push.ensures.items ∙ ap (λ (m : ℤ). ps ++ price_of m c.args.place ∷ []) e in
     let d = price_passed j.sizes.choices j.sizes.price_room g.B.Scale.places.top ps c.args.mark c.args.place
-    (c.in-ok-check-price.ensures ∙ same_answer j.sizes.choices j.sizes.price_room c.args.place c.top-place.ensures c.as-slice.ensures e) in
+    (c.in_ok-check_price.ensures ∙ same_answer j.sizes.choices j.sizes.price_room c.args.place c.top_place.ensures c.as_slice.ensures e) in
     let v : vec_len j.prices_b.entries ≡ length ps = j.prices_b.entries.ok.0 in
     let u : vec_len c.push.new.self.entries ≡ length qs = c.push.new.self.entries.ok.0 in (
       j.units,
@@ -80,7 +80,7 @@ returns g c =
     let e = to_z-of_z w8 c.args.mark c.ranges.mark in
     let i : vec_items c.push.new.self.entries ≡ ps ++ price_of c.args.mark c.args.place ∷ [] = c.push.ensures.items ∙ ap (λ (m : ℤ). ps ++ price_of m c.args.place ∷ []) e in
     record {
-      answer = c.in-ok-check-price.ensures ∙ same_answer j.sizes.choices j.sizes.price_room c.args.place c.top-place.ensures c.as-slice.ensures e;
+      answer = c.in_ok-check_price.ensures ∙ same_answer j.sizes.choices j.sizes.price_room c.args.place c.top_place.ensures c.as_slice.ensures e;
       after = ap (λ (x : List Price). record {
         choices = j.sizes.choices;
         price_room = j.sizes.price_room;

@@ -4,10 +4,10 @@ use Rattle.design.specs.Plan.{Scales}
 use Rattle.planner.proofs.Halving.{small_a}
 use Rattle.planner.proofs.halve.find_least.Goals as goal
 
-pub returns-in-err-word : goal.returns-in-err-word
-returns-in-err-word g c =
+pub returns-in_err-word : goal.returns-in_err-word
+returns-in_err-word g c =
     let j = g.J.Judge in
     let l = subst PlaceLaws (ap (λ (x : Scales). x.a) (sym g.met.J.Judge.tied)) (place_laws _ _ _ _ g.CostA.Scale.laws) in
-    let h = c.in-err-word.ensures in
+    let h = c.in_err-word.ensures in
     rw c.from-residual.ensures
     (record { answer = λ v p b. h.answer v (record { plan = p; at_a = omega (arith, small_a j.scales (j.meaning c.args.judge.now) v l); at_b = b }); same = h.same })

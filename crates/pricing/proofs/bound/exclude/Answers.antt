@@ -10,8 +10,8 @@ returns c =
     let p = c.args.at in
     let m = c.args.mark in
     let e = to_z-of_z w8 c.args.mark c.ranges.mark in
-    let u = c.up-word.ensures ∙ ap up_bit e in
-    let d = c.down-word.ensures ∙ ap down_bit e in
+    let u = c.up_word.ensures ∙ ap up_bit e in
+    let d = c.down_word.ensures ∙ ap down_bit e in
     record {
       up_le = c.without.ensures.less;
       down_le = c.without-2.ensures.less;

@@ -8,8 +8,8 @@ loop-rest-init c = (omega arith, λ k e. inl e)
 pub loop-rest-preserved : goal.loop-rest-preserved
 loop-rest-preserved c = (
   omega (arith, c.min-least.ensures, c.loop-rest.invariant.0),
-  left_next c.args.table.now c.args.word c.loop-rest.rest c.without-bit-rest.result c.highest-index-k.result c.loop-rest.least c.min-least.result
-      c.loop-rest.invariant.1 c.without-bit-rest.ensures.bits (omega (arith, c.min-least.ensures)) (omega (arith, c.min-least.ensures)),
+  left_next c.args.table.now c.args.word c.loop-rest.rest c.without_bit-rest.result c.highest_index-k.result c.loop-rest.least c.min-least.result
+      c.loop-rest.invariant.1 c.without_bit-rest.ensures.bits (omega (arith, c.min-least.ensures)) (omega (arith, c.min-least.ensures)),
 )
 
 pub returns : goal.returns

@@ -10,8 +10,8 @@ use Rattle.sweeping.proofs.Reaching.{ready_after, clauses_stay}
 use Rattle.deciding.proofs.Trying.{Tried, first_tried, next_tried, fewer, tried_ready, tried_found, both_lost, inside, all_met, reached_found, top_low, undone, lost_none}
 use Rattle.settling.proofs.search.+settle_try_choice.Goals as goal
 
-pub settle-try-choice-requires : goal.settle-try-choice-requires
-settle-try-choice-requires t c =
+pub settle_try_choice-requires : goal.settle_try_choice-requires
+settle_try_choice-requires t c =
     let l = c.args.layout.now in
     let s = c.args.store.now in
     let s₁ = c.propagate.new.store in
@@ -27,20 +27,20 @@ settle-try-choice-requires t c =
       ),
     )
 
-pub settle-returns-then-try-choice : goal.settle-returns-then-try-choice
-settle-returns-then-try-choice t c =
-    reached_found c.args.layout.now c.args.store.now c.args.base c.propagate.new.store c.in-Ok.sweep.top c.requires c.in-Ok.ensures.0 c.try-choice.new.store c.if-try-choice.ensures
+pub settle-returns-then-try_choice : goal.settle-returns-then-try_choice
+settle-returns-then-try_choice t c =
+    reached_found c.args.layout.now c.args.store.now c.args.base c.propagate.new.store c.in-Ok.sweep.top c.requires c.in-Ok.ensures.0 c.try_choice.new.store c.if-try_choice.ensures
 
 pub settle-undo-requires-in-Some : goal.settle-undo-requires-in-Some
 settle-undo-requires-in-Some t c =
     let l = c.args.layout.now in
     let p = c.in-Ok.ensures.0 in
-    let n = c.if-try-choice.ensures in
+    let n = c.if-try_choice.ensures in
     record {
       low = p.low;
       high = top_low l c.args.store.now c.args.base c.propagate.new.store c.in-Ok.sweep.top c.requires p;
       long = omega (arith, c.requires.long, p.long, n.long);
-      named = ap (all_are_named l.choices) (part_front c.propagate.new.store c.try-choice.new.store c.in-Ok.sweep.top c.args.base (c.in-Ok.sweep.top - c.args.base) n.front (omega (arith, p.low))) ∙ p.named;
+      named = ap (all_are_named l.choices) (part_front c.propagate.new.store c.try_choice.new.store c.in-Ok.sweep.top c.args.base (c.in-Ok.sweep.top - c.args.base) n.front (omega (arith, p.low))) ∙ p.named;
     }
 
 pub settle-returns-in-Err : goal.settle-returns-in-Err
@@ -56,19 +56,19 @@ settle-returns-in-None t c =
     let s₁ = c.propagate.new.store in
     all_met l s c.args.base s₁ c.in-Ok.sweep.top c.requires c.in-Ok.ensures.0 (subst (Noted (clauses_at s l) l.choices (values_in s₁ l)) c.in-None.is c.in-Ok.ensures.1)
 
-pub settle-returns-else-try-choice : goal.settle-returns-else-try-choice
-settle-returns-else-try-choice t c =
+pub settle-returns-else-try_choice : goal.settle-returns-else-try_choice
+settle-returns-else-try_choice t c =
     let l = c.args.layout.now in
     let s = c.args.store.now in
     let s₁ = c.propagate.new.store in
     let p = c.in-Ok.ensures.0 in
-    let n = c.if-try-choice.ensures in
-    undone l s c.args.base s₁ c.in-Ok.sweep.top c.requires p c.try-choice.new.store c.undo-in-Some.new.store
-    n.long n.front n.same (lost_none l s c.args.base s₁ c.in-Ok.sweep.top c.requires p c.try-choice.new.store n)
+    let n = c.if-try_choice.ensures in
+    undone l s c.args.base s₁ c.in-Ok.sweep.top c.requires p c.try_choice.new.store c.undo-in-Some.new.store
+    n.long n.front n.same (lost_none l s c.args.base s₁ c.in-Ok.sweep.top c.requires p c.try_choice.new.store n)
     c.undo-in-Some.auto.store c.undo-in-Some.ensures.front c.undo-in-Some.ensures.values
 
-pub try-choice-settle-requires : goal.try-choice-settle-requires
-try-choice-settle-requires t c =
+pub try_choice-settle-requires : goal.try_choice-settle-requires
+try_choice-settle-requires t c =
     let l = c.args.layout.now in
     let s = c.args.store.now in
     let m = c.args.mark in
@@ -82,8 +82,8 @@ try-choice-settle-requires t c =
     let k = fewer l s c.args.top m c.requires.ready c.requires.opened (value_that_holds m) s₁ (for_open m) t₁ in
     (search rules, tried_ready l s c.args.top m c.requires.ready c.requires.opened (value_that_holds m) s₁ (for_open m) t₁)
 
-pub try-choice-returns-then-settle : goal.try-choice-returns-then-settle
-try-choice-returns-then-settle t c =
+pub try_choice-returns-then-settle : goal.try_choice-returns-then-settle
+try_choice-returns-then-settle t c =
     let l = c.args.layout.now in
     let s = c.args.store.now in
     let m = c.args.mark in
@@ -96,8 +96,8 @@ try-choice-returns-then-settle t c =
     let t₁ = first_tried l s c.args.top m c.requires.ready c.requires.opened (value_that_holds m) c.place.result y at ey in
     tried_found l s c.args.top m c.requires.ready c.requires.opened (value_that_holds m) s₁ c.settle.new.store t₁ c.if-settle.ensures
 
-pub try-choice-settle-requires-2 : goal.try-choice-settle-requires-2
-try-choice-settle-requires-2 t c =
+pub try_choice-settle-requires-2 : goal.try_choice-settle-requires-2
+try_choice-settle-requires-2 t c =
     let l = c.args.layout.now in
     let s = c.args.store.now in
     let m = c.args.mark in
@@ -117,8 +117,8 @@ try-choice-settle-requires-2 t c =
     let k = fewer l s c.args.top m c.requires.ready c.requires.opened (value_that_fails m) s₃ (against_open m) t₂ in
     (search rules, tried_ready l s c.args.top m c.requires.ready c.requires.opened (value_that_fails m) s₃ (against_open m) t₂)
 
-pub try-choice-returns-then-settle-2 : goal.try-choice-returns-then-settle-2
-try-choice-returns-then-settle-2 t c =
+pub try_choice-returns-then-settle-2 : goal.try_choice-returns-then-settle-2
+try_choice-returns-then-settle-2 t c =
     let l = c.args.layout.now in
     let s = c.args.store.now in
     let m = c.args.mark in
@@ -137,8 +137,8 @@ try-choice-returns-then-settle-2 t c =
     let t₂ = next_tried l s c.args.top m c.requires.ready c.requires.opened (value_that_holds m) (value_that_fails m) s₁ s₂ c.place.result z at ez t₁ c.if-settle.ensures in
     tried_found l s c.args.top m c.requires.ready c.requires.opened (value_that_fails m) s₃ c.settle-2.new.store t₂ c.if-settle-2.ensures
 
-pub try-choice-returns : goal.try-choice-returns
-try-choice-returns t c =
+pub try_choice-returns : goal.try_choice-returns
+try_choice-returns t c =
     let l = c.args.layout.now in
     let s = c.args.store.now in
     let m = c.args.mark in

@@ -6,5 +6,5 @@ use Rattle.settling.proofs.search.+settle_try_choice.Given as goal
 abbrev pub decreases-settle : goal.decreases-settle
 decreases-settle l = 2 * opens (values_in l.store.now l.layout.now) + 1
 
-abbrev pub decreases-try-choice : goal.decreases-try-choice
-decreases-try-choice l = 2 * opens (values_in l.store.now l.layout.now)
+abbrev pub decreases-try_choice : goal.decreases-try_choice
+decreases-try_choice l = 2 * opens (values_in l.store.now l.layout.now)

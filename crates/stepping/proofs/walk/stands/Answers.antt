@@ -34,8 +34,8 @@ loop-at-preserved c =
     let z = get_or s c.loop-at.at (pos 0) in
     let f : SFits w16 z = search rules in
     let q = (here s l c.args.top c.args.choice c.loop-at.at c.requires c.loop-at.invariant c.loop-at-test.true).1 in
-    let e = c.unsigned-abs.ensures.value ∙ (ap nat_abs (to_z-of_z w16 z f) ∙ q.long) in
-    let n : c.loop-at.at + 1 + length (here s l c.args.top c.args.choice c.loop-at.at c.requires c.loop-at.invariant c.loop-at-test.true).0 ≡ c.loop-at.at + (1 + c.unsigned-abs.result) = omega (arith, e) in
+    let e = c.unsigned_abs.ensures.value ∙ (ap nat_abs (to_z-of_z w16 z f) ∙ q.long) in
+    let n : c.loop-at.at + 1 + length (here s l c.args.top c.args.choice c.loop-at.at c.requires c.loop-at.invariant c.loop-at-test.true).0 ≡ c.loop-at.at + (1 + c.unsigned_abs.result) = omega (arith, e) in
     subst (Going s l c.args.choice) n (q.on (λ h k. c.if-breaks.ensures (ap highest q.is ∙ h) (ap (state_from (values_in s l) Broken) q.is ∙ k)))
 
 pub returns : goal.returns

@@ -8,5 +8,5 @@ unfolding part
 returns c =
     let z = get_or c.args.cells.now c.args.at (pos 0) in
     let f : SFits w16 z = search rules in
-    let n : c.args.at + 1 + c.unsigned-abs-count.result - (c.args.at + 1) ≡ nat_abs z = omega (arith, c.unsigned-abs-count.ensures.value ∙ ap nat_abs (to_z-of_z w16 z f)) in
+    let n : c.args.at + 1 + c.unsigned_abs-count.result - (c.args.at + 1) ≡ nat_abs z = omega (arith, c.unsigned_abs-count.ensures.value ∙ ap nat_abs (to_z-of_z w16 z f)) in
     ap (λ x. take x (drop (c.args.at + 1) c.args.cells.now)) n

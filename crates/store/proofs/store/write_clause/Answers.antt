@@ -6,4 +6,4 @@ use Rattle.store.proofs.store.write_clause.Goals as goal
 pub returns : goal.returns
 returns c =
     let z : to_z w16 (length c.args.marks.now) ≡ pos (length c.args.marks.now) = omega (arith, ints) in
-    written c.args.free.now c.args.marks.now c.copy-from-slice.new.self _ (omega arith) z c.copy-from-slice.ensures.after
+    written c.args.free.now c.args.marks.now c.copy_from_slice.new.self _ (omega arith) z c.copy_from_slice.ensures.after

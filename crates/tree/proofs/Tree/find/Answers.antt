@@ -3,14 +3,14 @@ use Rattle.judge.specs.declared.sizes.Sizes.{Sizes}
 use Rattle.totalizer.specs.Encoding.{Agree}
 use Rattle.tree.proofs.Tree.find.Goals as goal
 
-pub returns-then-decide-within : goal.returns-then-decide-within
-returns-then-decide-within g c =
+pub returns-then-decide_within : goal.returns-then-decide_within
+returns-then-decide_within g c =
     let n = ap (λ (z : Sizes). z.choices) c.sizes.ensures in
-    let v = g.S.Solver.meaning c.decide-within.new.solver in
+    let v = g.S.Solver.meaning c.decide_within.new.solver in
     record {
-      answer = c.if-decide-within.ensures.answer c.held-word.result
-          (subst (λ (k : ℕ). c.held-word.result < 2 ^ k) n c.held-word.ensures.fits)
-          (subst (λ (k : ℕ). Agree k c.held-word.result v.held) n c.held-word.ensures.same);
+      answer = c.if-decide_within.ensures.answer c.held_word.result
+          (subst (λ (k : ℕ). c.held_word.result < 2 ^ k) n c.held_word.ensures.fits)
+          (subst (λ (k : ℕ). Agree k c.held_word.result v.held) n c.held_word.ensures.same);
       same = refl;
       size = search rules;
     }

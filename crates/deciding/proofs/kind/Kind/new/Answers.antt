@@ -7,8 +7,8 @@ use Rattle.store.proofs.Over.{length_over}
 use Rattle.store.proofs.Answering.{held_zero, same_solving}
 use Rattle.deciding.proofs.kind.Kind.new.Goals as goal
 
-pub invariant-of-result : goal.invariant-of-result
-invariant-of-result g c =
+pub invariant_of-result : goal.invariant_of-result
+invariant_of-result g c =
     let z = c.zero.new.cells in
     let n = length-replicate c.args.sizes.choices (pos 0) in
     let l = ap length c.zero.ensures ∙ length_over c.args.cells.now c.args.sizes.room (omega arith) (replicate c.args.sizes.choices (pos 0)) (omega arith) in (

@@ -17,11 +17,11 @@ returns-then-here-eq0 g t c =
     let y = g.B.Scale in
     let s = pair_of x.places y.places in
     let j = c.args.self.now in
-    let h = c.in-ok-here.ensures in (
+    let h = c.in_ok-here.ensures in (
       h.0.up_le,
       leaf (query s j c.args.a c.args.b)
           (sound s j c.args.a c.args.b (place_laws x.places x.place x.at x.joined x.laws) (place_laws y.places y.place y.at y.joined y.laws))
-          c.in-ok-here.here (omega (arith, h.0.up_le)) (omega (arith, h.0.down_le)) h.1 c.if-here-eq0.true,
+          c.in_ok-here.here (omega (arith, h.0.up_le)) (omega (arith, h.0.down_le)) h.1 c.if-here-eq0.true,
     )
 
 pub returns-then-eased-here : goal.returns-then-eased-here
@@ -30,25 +30,25 @@ returns-then-eased-here g t c =
     let y = g.B.Scale in
     let s = pair_of x.places y.places in
     let j = c.args.self.now in
-    let h = c.in-ok-here.ensures in
+    let h = c.in_ok-here.ensures in
     let q = query s j c.args.a c.args.b in
-    let x1 = c.priced-choices-ups-a.result in
-    let x2 = c.priced-choices-ups-b.result in
+    let x1 = c.priced_choices-ups_a.result in
+    let x2 = c.priced_choices-ups_b.result in
     let ups = bit_or x1.0 x2.0 in
     let downs = bit_or x1.1 x2.1 in
-    let eu : ups ≡ bit_or (ups_of (marks_in q.prices_a)) (ups_of (marks_in q.prices_b)) = ap (λ (n : ℕ). bit_or n x2.0) (ap (λ (z : ℕ × ℕ). z.0) c.priced-choices-ups-a.ensures) ∙ ap (bit_or (ups_of (marks_in q.prices_a))) (ap (λ (z : ℕ × ℕ). z.0) c.priced-choices-ups-b.ensures) in
-    let ed : downs ≡ bit_or (downs_of (marks_in q.prices_a)) (downs_of (marks_in q.prices_b)) = ap (λ (n : ℕ). bit_or n x2.1) (ap (λ (z : ℕ × ℕ). z.1) c.priced-choices-ups-a.ensures) ∙ ap (bit_or (downs_of (marks_in q.prices_a))) (ap (λ (z : ℕ × ℕ). z.1) c.priced-choices-ups-b.ensures) in
-    through q c.args.at c.in-ok-here.here c.search.result h.0
+    let eu : ups ≡ bit_or (ups_of (marks_in q.prices_a)) (ups_of (marks_in q.prices_b)) = ap (λ (n : ℕ). bit_or n x2.0) (ap (λ (z : ℕ × ℕ). z.0) c.priced_choices-ups_a.ensures) ∙ ap (bit_or (ups_of (marks_in q.prices_a))) (ap (λ (z : ℕ × ℕ). z.0) c.priced_choices-ups_b.ensures) in
+    let ed : downs ≡ bit_or (downs_of (marks_in q.prices_a)) (downs_of (marks_in q.prices_b)) = ap (λ (n : ℕ). bit_or n x2.1) (ap (λ (z : ℕ × ℕ). z.1) c.priced_choices-ups_a.ensures) ∙ ap (bit_or (downs_of (marks_in q.prices_a))) (ap (λ (z : ℕ × ℕ). z.1) c.priced_choices-ups_b.ensures) in
+    through q c.args.at c.in_ok-here.here c.search.result h.0
     (eased_found q
     (sound s j c.args.a c.args.b (place_laws x.places x.place x.at x.joined x.laws) (place_laws y.places y.place y.at y.joined y.laws))
-    c.in-ok-here.here c.ease-eased.result c.search.result ups downs eu ed
-    (subst (λ (rs : List Rule). Eased rs ups downs c.in-ok-here.here c.ease-eased.result) c.as-slice.ensures.value c.ease-eased.ensures)
+    c.in_ok-here.here c.ease-eased.result c.search.result ups downs eu ed
+    (subst (λ (rs : List Rule). Eased rs ups downs c.in_ok-here.here c.ease-eased.result) c.as_slice.ensures.value c.ease-eased.ensures)
     c.search.ensures)
 
 pub returns-in-None : goal.returns-in-None
 returns-in-None g t c =
     let s = pair_of g.A.Scale.places g.B.Scale.places in
     let q = query s c.args.self.now c.args.a c.args.b in
-    let h = c.in-ok-here.ensures in
-    through q c.args.at c.in-ok-here.here c.search-in-None.result h.0
-    (halved q c.in-ok-here.here c.split.result.0 c.split.result.1 c.search-in-None.result c.split.ensures c.in-None.ensures c.search-in-None.ensures)
+    let h = c.in_ok-here.ensures in
+    through q c.args.at c.in_ok-here.here c.search-in-None.result h.0
+    (halved q c.in_ok-here.here c.split.result.0 c.split.result.1 c.search-in-None.result c.split.ensures c.in-None.ensures c.search-in-None.ensures)

@@ -4,8 +4,8 @@ use Rattle.plain.specs.Held.{pair_of}
 use Rattle.plain.proofs.Entering.{no_units, no_rules, no_rules_of, no_prices}
 use Rattle.plain.proofs.state.Plain.new.Goals as goal
 
-pub invariant-of-result : goal.invariant-of-result
-invariant-of-result g c =
+pub invariant_of-result : goal.invariant_of-result
+invariant_of-result g c =
     let r = c.args.room in
     let a = ap vec_items c.new.ensures ∙ r.no_a in
     let b = ap vec_items c.new-2.ensures ∙ r.no_b in

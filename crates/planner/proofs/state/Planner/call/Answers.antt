@@ -6,7 +6,7 @@ use Rattle.planner.proofs.Telling.{goes_at, goes_rule, goes_price_a, goes_price_
 use Rattle.planner.proofs.state.Planner.call.Goals as goal
 
 pub returns-in-Rule : goal.returns-in-Rule
-returns-in-Rule g c = goes_at _ _ _ _ _ _ _ c.in-Rule.is c.outcome-of.ensures (goes_rule _ _ _ _ _ c.rule-of.ensures)
+returns-in-Rule g c = goes_at _ _ _ _ _ _ _ c.in-Rule.is c.outcome_of.ensures (goes_rule _ _ _ _ _ c.rule_of.ensures)
 
 pub returns-in-PriceA : goal.returns-in-PriceA
 returns-in-PriceA g c =
@@ -14,7 +14,7 @@ returns-in-PriceA g c =
     let e = to_z-of_z w8 c.in-PriceA.mark f in
     let x = state_in g.J.Judge.meaning c.args.self.now in
     let y = state_in g.J.Judge.meaning c.price_a.new.self in
-    goes_at _ x y _ _ _ _ c.in-PriceA.is c.outcome-of-in-PriceA.ensures
+    goes_at _ x y _ _ _ _ c.in-PriceA.is c.outcome_of-in-PriceA.ensures
     (goes_price_a g.J.Judge.scales x y c.in-PriceA.mark c.in-PriceA.place c.price_a.result
     (subst (λ (k : ℤ). Extends g.J.Judge.scales x (priced_a k c.in-PriceA.place c.price_a.result) y) e c.price_a.ensures.run))
 
@@ -24,7 +24,7 @@ returns-in-PriceB g c =
     let e = to_z-of_z w8 c.in-PriceB.mark f in
     let x = state_in g.J.Judge.meaning c.args.self.now in
     let y = state_in g.J.Judge.meaning c.price_b.new.self in
-    goes_at _ x y _ _ _ _ c.in-PriceB.is c.outcome-of-in-PriceB.ensures
+    goes_at _ x y _ _ _ _ c.in-PriceB.is c.outcome_of-in-PriceB.ensures
     (goes_price_b g.J.Judge.scales x y c.in-PriceB.mark c.in-PriceB.place c.price_b.result
     (subst (λ (k : ℤ). Extends g.J.Judge.scales x (priced_b k c.in-PriceB.place c.price_b.result) y) e c.price_b.ensures.run))
 

@@ -12,22 +12,22 @@ pub returns-then-self : goal.returns-then-self
 returns-then-self g c =
     record { run = extend_shut _ (ruled c.args.marks.now) (λ m. with_rule m c.args.marks.now) (λ m. rule_answer m c.args.marks.now) (λ x q. refl) (λ x q e. e) _ _ _ c.if-self.true }
 
-pub returns-in-err-rule : goal.returns-in-err-rule
-returns-in-err-rule g c =
+pub returns-in_err-rule : goal.returns-in_err-rule
+returns-in_err-rule g c =
     let j = g.J.Judge in
     let p = c.args.self.now in
     let x = err_from_is_err_and c.from-residual.result c.from-residual.ensures.1 in
-    let e : raised (Err c.in-err-rule.field-0.0) ≡ c.from-residual.result = ap (λ (f : PlannerFault). Err f) (sym x.2) ∙ sym x.1 in
-    let h = c.in-err-rule.ensures in
+    let e : raised (Err c.in_err-rule.field-0.0) ≡ c.from-residual.result = ap (λ (f : PlannerFault). Err f) (sym x.2) ∙ sym x.1 in
+    let h = c.in_err-rule.ensures in
     let done = extend_entered j.scales (ruled c.args.marks.now) (λ m. with_rule m c.args.marks.now) (λ m. rule_answer m c.args.marks.now) (λ x q. refl) (λ x q e. e) j.meaning p.judge c.rule.new.self (vec_items p.entries) p.listing
-    (Err c.in-err-rule.field-0.0) c.if-self.false (p.shut c.if-self.false) h.answer h.after in
+    (Err c.in_err-rule.field-0.0) c.if-self.false (p.shut c.if-self.false) h.answer h.after in
     record { run = subst (λ (k : Reply). Extends j.scales (state_at (j.meaning p.judge) (vec_items p.entries) p.listing) (ruled c.args.marks.now k) (state_at (j.meaning c.rule.new.self) (vec_items p.entries) p.listing)) e done }
 
 pub returns : goal.returns
 returns g c =
     let j = g.J.Judge in
     let p = c.args.self.now in
-    let h = c.in-ok-rule.ensures in
+    let h = c.in_ok-rule.ensures in
     record {
       run = extend_entered j.scales (ruled c.args.marks.now) (λ m. with_rule m c.args.marks.now) (λ m. rule_answer m c.args.marks.now) (λ x q. refl) (λ x q e. e) j.meaning p.judge c.rule.new.self (vec_items p.entries) p.listing
           (Ok tt) c.if-self.false (p.shut c.if-self.false) h.answer h.after;

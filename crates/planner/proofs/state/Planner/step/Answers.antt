@@ -11,16 +11,16 @@ use Rattle.planner.proofs.state.Planner.step.Goals as goal
 pub returns-then-below-eq0 : goal.returns-then-below-eq0
 returns-then-below-eq0 g c =
     let j = g.J.Judge in
-    let z : last_b 201 (vec_items c.args.self.now.entries) ≡ 0 = ap (last_b 201) (sym c.deref.ensures.value) ∙ sym c.next-below-below.ensures ∙ c.if-below-eq0.true in
+    let z : last_b 201 (vec_items c.args.self.now.entries) ≡ 0 = ap (last_b 201) (sym c.deref.ensures.value) ∙ sym c.next_below-below.ensures ∙ c.if-below-eq0.true in
     record { run = (None, tt, extend_none j.scales _ _ _ _ (subst PlaceLaws (ap (λ (x : Scales). x.b) (sym g.met.J.Judge.tied)) (place_laws _ _ _ _ g.CostB.Scale.laws)) (reads_as j.scales _ (j.table c.args.self.now.judge) (subst PlaceLaws (ap (λ (x : Scales). x.a) (sym g.met.J.Judge.tied)) (place_laws _ _ _ _ g.CostA.Scale.laws)) (subst PlaceLaws (ap (λ (x : Scales). x.b) (sym g.met.J.Judge.tied)) (place_laws _ _ _ _ g.CostB.Scale.laws))) (λ v p lt. omega arith) refl) }
 
-pub invariant-of-self-in-Some : goal.invariant-of-self-in-Some
-invariant-of-self-in-Some g c =
-    let b : c.next-below-below.result ≡ last_b 201 (vec_items c.args.self.now.entries) = c.next-below-below.ensures ∙ ap (last_b 201) c.deref.ensures.value in
-    let e : last_b 201 (vec_items c.push-reserved.new.self) ≡ c.in-Some.entry.b = ap (last_b 201) c.push-reserved.ensures.items ∙ last_more 201 (vec_items c.args.self.now.entries) c.in-Some.entry in (
-      omega (arith, c.push-reserved.ensures.capacity, c.args.self.now.memory),
+pub invariant_of-self-in-Some : goal.invariant_of-self-in-Some
+invariant_of-self-in-Some g c =
+    let b : c.next_below-below.result ≡ last_b 201 (vec_items c.args.self.now.entries) = c.next_below-below.ensures ∙ ap (last_b 201) c.deref.ensures.value in
+    let e : last_b 201 (vec_items c.push_reserved.new.self) ≡ c.in-Some.entry.b = ap (last_b 201) c.push_reserved.ensures.items ∙ last_more 201 (vec_items c.args.self.now.entries) c.in-Some.entry in (
+      omega (arith, c.push_reserved.ensures.capacity, c.args.self.now.memory),
       (
-        omega (arith, e, b, c.push-reserved.ensures.len, c.in-Some.ensures.answer.in_bound, c.args.self.now.falls),
+        omega (arith, e, b, c.push_reserved.ensures.len, c.in-Some.ensures.answer.in_bound, c.args.self.now.falls),
         (λ q. absurd (both_ways _ q refl), tt),
       ),
     )
@@ -28,23 +28,23 @@ invariant-of-self-in-Some g c =
 pub returns-in-Some : goal.returns-in-Some
 returns-in-Some g c =
     let j = g.J.Judge in
-    let b : c.next-below-below.result ≡ last_b 201 (vec_items c.args.self.now.entries) = c.next-below-below.ensures ∙ ap (last_b 201) c.deref.ensures.value in
+    let b : c.next_below-below.result ≡ last_b 201 (vec_items c.args.self.now.entries) = c.next_below-below.ensures ∙ ap (last_b 201) c.deref.ensures.value in
     record {
       run = (
         Some c.in-Some.entry,
         (refl, refl),
-        extend_some j.scales _ _ _ _ _ _ _ (subst PlaceLaws (ap (λ (x : Scales). x.b) (sym g.met.J.Judge.tied)) (place_laws _ _ _ _ g.CostB.Scale.laws)) (omega (arith, b)) c.in-Some.ensures.answer c.find-least.ensures.same c.push-reserved.ensures.items,
+        extend_some j.scales _ _ _ _ _ _ _ (subst PlaceLaws (ap (λ (x : Scales). x.b) (sym g.met.J.Judge.tied)) (place_laws _ _ _ _ g.CostB.Scale.laws)) (omega (arith, b)) c.in-Some.ensures.answer c.find_least.ensures.same c.push_reserved.ensures.items,
       );
     }
 
 pub returns-in-None : goal.returns-in-None
 returns-in-None g c =
     let j = g.J.Judge in
-    let b : c.next-below-below.result ≡ last_b 201 (vec_items c.args.self.now.entries) = c.next-below-below.ensures ∙ ap (last_b 201) c.deref.ensures.value in
+    let b : c.next_below-below.result ≡ last_b 201 (vec_items c.args.self.now.entries) = c.next_below-below.ensures ∙ ap (last_b 201) c.deref.ensures.value in
     record {
       run = (
         None,
         tt,
-        extend_none j.scales _ _ _ _ (subst PlaceLaws (ap (λ (x : Scales). x.b) (sym g.met.J.Judge.tied)) (place_laws _ _ _ _ g.CostB.Scale.laws)) (reads_as j.scales _ (j.table c.args.self.now.judge) (subst PlaceLaws (ap (λ (x : Scales). x.a) (sym g.met.J.Judge.tied)) (place_laws _ _ _ _ g.CostA.Scale.laws)) (subst PlaceLaws (ap (λ (x : Scales). x.b) (sym g.met.J.Judge.tied)) (place_laws _ _ _ _ g.CostB.Scale.laws))) (λ v p lt. c.in-None.ensures.answer v p (omega (arith, b))) c.find-least.ensures.same,
+        extend_none j.scales _ _ _ _ (subst PlaceLaws (ap (λ (x : Scales). x.b) (sym g.met.J.Judge.tied)) (place_laws _ _ _ _ g.CostB.Scale.laws)) (reads_as j.scales _ (j.table c.args.self.now.judge) (subst PlaceLaws (ap (λ (x : Scales). x.a) (sym g.met.J.Judge.tied)) (place_laws _ _ _ _ g.CostA.Scale.laws)) (subst PlaceLaws (ap (λ (x : Scales). x.b) (sym g.met.J.Judge.tied)) (place_laws _ _ _ _ g.CostB.Scale.laws))) (λ v p lt. c.in-None.ensures.answer v p (omega (arith, b))) c.find_least.ensures.same,
       );
     }

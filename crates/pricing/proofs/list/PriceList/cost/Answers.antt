@@ -7,4 +7,4 @@ pub returns : goal.returns
 returns g c =
     let s = g.S.Scale in
     let l = c.args.self.now in
-    c.sure-cost.ensures ∙ cost_whole s.places (place_laws s.places s.place s.at s.joined s.laws) (vec_items l.entries) c.args.word l.named
+    c.sure_cost.ensures ∙ cost_whole s.places (place_laws s.places s.place s.at s.joined s.laws) (vec_items l.entries) c.args.word l.named

@@ -17,7 +17,7 @@ loop-rule-init g c w a m =
     let l = place_laws s.places s.place s.at s.joined s.laws in
     let ps = vec_items c.args.self.now.entries in
     let t = total_wider s.places l (sure c.args.at) (counts w _) ps (wider_named 64 ps _ _ c.args.self.now.named (sure_counts c.args.at w a)) in
-    omega (arith, c.sure-cost-sum.ensures)
+    omega (arith, c.sure_cost-sum.ensures)
 
 pub loop-rule-preserved : goal.loop-rule-preserved
 loop-rule-preserved g c n a m =
@@ -30,7 +30,7 @@ loop-rule-preserved g c n a m =
     let P : ℕ → ℕ → Type 0 = λ sum seen. sum ≤ total s.places (counts n seen) ps in
     elim c.if-takes-leaves-eq0.branch [
       | then-takes-leaves-eq0+then-price-gt0 w ↦
-          subst (λ (x : ℕ). P x c.if-takes-leaves-eq0.seen) (sym (w.sum-is ∙ w.join-places-sum.ensures))
+          subst (λ (x : ℕ). P x c.if-takes-leaves-eq0.seen) (sym (w.sum-is ∙ w.join_places-sum.ensures))
           (subst (P _) (sym w.seen-is)
           (hit_adds s.places l ps r.ups r.downs p.up p.down n c.loop-rule.seen w.cheapest-price.result c.loop-rule.sum c.args.self.now.named a
           (item_hit c.args.rules.now c.loop-rule.rule-index r c.rule-item.is c.loop-rule-test.true n m)

@@ -6,9 +6,9 @@ use Rattle.pricing.specs.Tables.{marks_in, price_at, take_mark, leave_mark}
 use Rattle.pricing.proofs.Tabling.{zero_table}
 use Rattle.pricing.proofs.list.PriceList.new.Goals as goal
 
-pub invariant-of-result : goal.invariant-of-result
+pub invariant_of-result : goal.invariant_of-result
 unfolding all_are_named marks_in price_at ups_of downs_of ups_from downs_from
-invariant-of-result c =
+invariant_of-result c =
     let e = c.requires in (
       ap (λ (ps : List Price). all_are_named 64 (marks_in ps)) e,
       (

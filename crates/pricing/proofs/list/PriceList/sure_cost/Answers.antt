@@ -9,15 +9,15 @@ use Rattle.pricing.specs.Tables.{marks_in}
 use Rattle.pricing.specs.Bounds.{sure}
 use Rattle.pricing.proofs.Costing.{mark_named, joined_place}
 use Rattle.pricing.proofs.list.PriceList.sure_cost.Goals as goal
-use Rattle.pricing.proofs.list.PriceList.sure_cost.Goals.{then-is-sure, else-is-sure}
+use Rattle.pricing.proofs.list.PriceList.sure_cost.Goals.{then-is_sure, else-is_sure}
 
-pub is-sure-requires : goal.is-sure-requires
-is-sure-requires g c =
-    let ps = c.as-slice-price-items.result.now in
+pub is_sure-requires : goal.is_sure-requires
+is_sure-requires g c =
+    let ps = c.as_slice-price-items.result.now in
     let p = get_or ps c.loop-price.price-index (record { mark = pos 0; place = 0 }) in
     let f : SFits w8 p.mark = search rules in
     ap (named 64) (to_z-of_z w8 p.mark f)
-    ∙ mark_named 64 ps c.loop-price.price-index (record { mark = pos 0; place = 0 }) (ap (λ (x : List Price). all_are_named 64 (marks_in x)) c.as-slice-price-items.ensures.value ∙ c.args.self.now.named) c.loop-price-test.true
+    ∙ mark_named 64 ps c.loop-price.price-index (record { mark = pos 0; place = 0 }) (ap (λ (x : List Price). all_are_named 64 (marks_in x)) c.as_slice-price-items.ensures.value ∙ c.args.self.now.named) c.loop-price-test.true
 
 pub loop-price-init : goal.loop-price-init
 loop-price-init g c =
@@ -28,15 +28,15 @@ loop-price-init g c =
 pub loop-price-preserved : goal.loop-price-preserved
 loop-price-preserved g c =
     let s = g.S.Scale in
-    let ps = c.as-slice-price-items.result.now in
+    let ps = c.as_slice-price-items.result.now in
     let d : Price = record { mark = pos 0; place = 0 } in
     let p = get_or ps c.loop-price.price-index (record { mark = pos 0; place = 0 }) in
     let f : SFits w8 p.mark = search rules in
-    let h : c.is-sure.result ≡ sure c.args.at p.mark = c.is-sure.ensures ∙ ap (sure c.args.at) (to_z-of_z w8 p.mark f) in
-    let e : c.if-is-sure.sum ≡ cond c.is-sure.result (s.joined c.loop-price.sum (s.at p.place)) c.loop-price.sum =
-    elim c.if-is-sure.branch [
-      | then-is-sure w ↦ w.sum-is ∙ w.join-sum.ensures ∙ ap (s.joined c.loop-price.sum) w.from-place.ensures ∙ sym (ap (λ k. cond k (s.joined c.loop-price.sum (s.at p.place)) c.loop-price.sum) w.if-is-sure.true)
-      | else-is-sure w ↦ w.sum-is ∙ sym (ap (λ k. cond k (s.joined c.loop-price.sum (s.at p.place)) c.loop-price.sum) w.if-is-sure.false)
+    let h : c.is_sure.result ≡ sure c.args.at p.mark = c.is_sure.ensures ∙ ap (sure c.args.at) (to_z-of_z w8 p.mark f) in
+    let e : c.if-is_sure.sum ≡ cond c.is_sure.result (s.joined c.loop-price.sum (s.at p.place)) c.loop-price.sum =
+    elim c.if-is_sure.branch [
+      | then-is_sure w ↦ w.sum-is ∙ w.join-sum.ensures ∙ ap (s.joined c.loop-price.sum) w.from_place.ensures ∙ sym (ap (λ k. cond k (s.joined c.loop-price.sum (s.at p.place)) c.loop-price.sum) w.if-is_sure.true)
+      | else-is_sure w ↦ w.sum-is ∙ sym (ap (λ k. cond k (s.joined c.loop-price.sum (s.at p.place)) c.loop-price.sum) w.if-is_sure.false)
     ] in
     joined_place s.places s.place s.at s.joined s.laws (sure c.args.at) _ p _ _ _ c.loop-price.invariant h e
     ∙ sym (total_next s.places (sure c.args.at) ps c.loop-price.price-index d c.loop-price-test.true)
@@ -44,4 +44,4 @@ loop-price-preserved g c =
 pub returns : goal.returns
 returns g c =
     let s = g.S.Scale in
-    c.place-of.ensures ∙ c.loop-price.invariant ∙ ap (total s.places (sure c.args.at)) (take_all _ _ c.loop-price-test.false ∙ c.as-slice-price-items.ensures.value)
+    c.place_of.ensures ∙ c.loop-price.invariant ∙ ap (total s.places (sure c.args.at)) (take_all _ _ c.loop-price-test.false ∙ c.as_slice-price-items.ensures.value)

@@ -8,12 +8,12 @@ returns-then-leaves-eq0 c =
     let r = c.args.self.now in
     broken r.ups r.downs c.args.at.up c.args.at.down c.if-takes-eq0.true c.if-leaves-eq0.true
 
-pub returns-then-leaves-highest-bit : goal.returns-then-leaves-highest-bit
-returns-then-leaves-highest-bit c =
+pub returns-then-leaves-highest_bit : goal.returns-then-leaves-highest_bit
+returns-then-leaves-highest_bit c =
     let r = c.args.self.now in
     let p = c.args.at in
-    let s = c.highest-bit.ensures in
-    let q = c.if-leaves-highest-bit.true ∙ s.power in
+    let s = c.highest_bit.ensures in
+    let q = c.if-leaves-highest_bit.true ∙ s.power in
     let d = dropped p.up _ s.index c.without.result q c.without.ensures.bits in (
       record {
         up_le = c.without.ensures.less;
@@ -23,17 +23,17 @@ returns-then-leaves-highest-bit c =
       λ z y. c.if-leaves-eq0.false y,
     )
 
-pub returns-then-takes-highest-bit : goal.returns-then-takes-highest-bit
-returns-then-takes-highest-bit c =
+pub returns-then-takes-highest_bit : goal.returns-then-takes-highest_bit
+returns-then-takes-highest_bit c =
     let r = c.args.self.now in
     let p = c.args.at in
-    let s = c.highest-bit-then-leaves-eq0-2.ensures in
-    let q = c.if-takes-highest-bit.true ∙ s.power in
-    let d = dropped p.down _ s.index c.without-then-takes-highest-bit.result q c.without-then-takes-highest-bit.ensures.bits in (
+    let s = c.highest_bit-then-leaves-eq0-2.ensures in
+    let q = c.if-takes-highest_bit.true ∙ s.power in
+    let d = dropped p.down _ s.index c.without-then-takes-highest_bit.result q c.without-then-takes-highest_bit.ensures.bits in (
       record {
         up_le = omega arith;
-        down_le = c.without-then-takes-highest-bit.ensures.less;
-        keeps = λ w a h. drop_down p.up p.down s.index c.without-then-takes-highest-bit.result w d a (must_take r.ups r.downs p.up p.down s.index w q c.if-leaves-eq0-2.true a h);
+        down_le = c.without-then-takes-highest_bit.ensures.less;
+        keeps = λ w a h. drop_down p.up p.down s.index c.without-then-takes-highest_bit.result w d a (must_take r.ups r.downs p.up p.down s.index w q c.if-leaves-eq0-2.true a h);
       },
       λ z y. c.if-takes-eq0.false z,
     )

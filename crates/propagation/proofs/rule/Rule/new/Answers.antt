@@ -10,14 +10,14 @@ use Rattle.propagation.proofs.rule.Rule.new.Goals as goal
 pub loop-i-init : goal.loop-i-init
 loop-i-init c = (refl, refl, ups_none, downs_none)
 
-pub up-word-ups-requires : goal.up-word-ups-requires
-up-word-ups-requires c =
+pub up_word-ups-requires : goal.up_word-ups-requires
+up_word-ups-requires c =
     let z = get_or c.args.marks.now c.loop-i.i (pos 0) in
     let f : SFits w8 z = search rules in
     ap (named 64) (to_z-of_z w8 z f) ∙ all_at 64 c.loop-i.i c.args.marks.now (pos 0) c.requires.named c.loop-i-test.true
 
-pub down-word-downs-requires : goal.down-word-downs-requires
-down-word-downs-requires c =
+pub down_word-downs-requires : goal.down_word-downs-requires
+down_word-downs-requires c =
     let z = get_or c.args.marks.now c.loop-i.i (pos 0) in
     let f : SFits w8 z = search rules in
     ap (named 64) (to_z-of_z w8 z f) ∙ all_at 64 c.loop-i.i c.args.marks.now (pos 0) c.requires.named c.loop-i-test.true
@@ -34,15 +34,15 @@ loop-i-preserved c =
     let n : c.loop-i.i < length c.loop-i.held = omega (arith, c.loop-i.invariant.0) in (
       length-set c.loop-i.held i _ ∙ c.loop-i.invariant.0,
       take_more_set c.loop-i.held i _ n ∙ ap (λ (x : List ℤ). x ++ to_z w8 (of_z w8 z) ∷ []) c.loop-i.invariant.1 ∙ ap (λ (x : ℤ). take i ms ++ x ∷ []) e ∙ sym (take_more ms i (pos 0) l),
-      ups_next ms i _ _ l c.loop-i.invariant.2 (c.up-word-ups.ensures ∙ ap up_bit e),
-      downs_next ms i _ _ l c.loop-i.invariant.3 (c.down-word-downs.ensures ∙ ap down_bit e),
+      ups_next ms i _ _ l c.loop-i.invariant.2 (c.up_word-ups.ensures ∙ ap up_bit e),
+      downs_next ms i _ _ l c.loop-i.invariant.3 (c.down_word-downs.ensures ∙ ap down_bit e),
     )
 
 all_held : (ms held : List ℤ) (i : ℕ) → i ≤ length ms → length ms ≤ i → take i held ≡ take i ms → take (length ms) held ≡ ms
 all_held ms held i h k e = let q : length ms ≡ i = omega arith in ap (λ (n : ℕ). take n held) q ∙ e ∙ take_all i ms k
 
-pub invariant-of-result : goal.invariant-of-result
-invariant-of-result c =
+pub invariant_of-result : goal.invariant_of-result
+invariant_of-result c =
     let ms = c.args.marks.now in
     let e = all_held ms c.loop-i.held c.loop-i.i c.loop-i.auto.i-end c.loop-i-test.false c.loop-i.invariant.1 in
     let t = take_all c.loop-i.i ms c.loop-i-test.false in (
