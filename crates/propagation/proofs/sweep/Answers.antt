@@ -12,7 +12,7 @@ loop-rule-init c = (narrow_same (Met c.args.rules.now) c.args.at.up c.args.at.do
 
 pub returns-in_err-here : goal.returns-in_err-here
 returns-in_err-here c =
-    subst (Swept c.args.rules.now c.args.at) (sym c.from-residual.ensures)
+    subst (Swept c.args.rules.now c.args.at) (sym c.from_residual.ensures)
     (λ w a m. c.in_err-here.ensures w (c.loop-rule.invariant.0.keeps w a m)
     (item_hit c.args.rules.now c.loop-rule.rule-index c.rule-item.result c.rule-item.is c.loop-rule-test.true w m))
 

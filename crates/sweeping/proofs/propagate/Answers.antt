@@ -17,7 +17,7 @@ sweep_once-requires c =
 
 pub returns-in_err-sweep : goal.returns-in_err-sweep
 returns-in_err-sweep c =
-    let p = err_from_is_err_and c.from-residual.result c.from-residual.ensures.1 in
+    let p = err_from_is_err_and c.from_residual.result c.from_residual.ensures.1 in
     let q = settled_err c.args.layout.now c.args.store.now c.args.base c.loop-sweep.store c.loop-sweep.top c.sweep_once.new.store c.in_err-sweep.field-0.0 c.requires c.loop-sweep.invariant c.in_err-sweep.ensures in
     rw (p.1, p.2) q
 

@@ -16,7 +16,7 @@ unfolding clause_answer
 returns-in_err-check_clause g c =
     let s = c.args.self.now in
     let u = units_sound s.store.cells.now s.store.used s.sound (omega arith) in
-    let p = err_from_is_err_and c.from-residual.result c.from-residual.ensures.1 in
+    let p = err_from_is_err_and c.from_residual.result c.from_residual.ensures.1 in
     rw (p.1, p.2)
     (record {
       answer = c.in_err-check_clause.ensures ∙ ap (λ (n : ℕ). clause_check s.choices s.room n c.args.marks.now) (sym u);
@@ -28,25 +28,15 @@ invariant_of-self g c =
     let s = c.args.self.now in
     let ms = c.args.marks.now in
     let p = passed s.choices s.room s.store.used ms c.in_ok-check_clause.ensures in
-    let e = one_more s.store.cells.now c.put.new.self.cells.now ms s.store.used c.put.new.self.used s.sound (wrote s.store.cells.now c.put.new.self.cells.now ms s.store.used c.put.new.self.used (omega arith) c.put.ensures.used c.put.ensures.cells) in (
-      s.some,
-      (
-        s.few,
-        (
-          omega (arith, c.put.ensures.used, p.fits),
-          (
-            omega (arith, c.put.ensures.long, s.high),
-            (
-              more_sound s.store.cells.now c.put.new.self.cells.now ms s.store.used c.put.new.self.used s.sound (wrote s.store.cells.now c.put.new.self.cells.now ms s.store.used c.put.new.self.used (omega arith) c.put.ensures.used c.put.ensures.cells),
-              (
-                ap (clauses_named s.choices) e ∙ named_more s.choices (clauses_of s.store.cells.now s.store.used) ms s.named p.names,
-                tt,
-              ),
-            ),
-          ),
-        ),
-      ),
-    )
+    let e = one_more s.store.cells.now c.put.new.self.cells.now ms s.store.used c.put.new.self.used s.sound (wrote s.store.cells.now c.put.new.self.cells.now ms s.store.used c.put.new.self.used (omega arith) c.put.ensures.used c.put.ensures.cells) in
+    record {
+      some = s.some;
+      few = s.few;
+      low = omega (arith, c.put.ensures.used, p.fits);
+      high = omega (arith, c.put.ensures.long, s.high);
+      sound = more_sound s.store.cells.now c.put.new.self.cells.now ms s.store.used c.put.new.self.used s.sound (wrote s.store.cells.now c.put.new.self.cells.now ms s.store.used c.put.new.self.used (omega arith) c.put.ensures.used c.put.ensures.cells);
+      named = ap (clauses_named s.choices) e ∙ named_more s.choices (clauses_of s.store.cells.now s.store.used) ms s.named p.names;
+    }
 
 pub returns : goal.returns
 unfolding clause_answer

@@ -9,7 +9,14 @@ pub invariant_of-self : goal.invariant_of-self
 invariant_of-self g c =
     let s = c.args.self.now in
     let e = no_clauses s.store.cells.now in
-    (tt, (s.some, (s.few, (omega arith, (s.high, (ap encode_all e ∙ encode_none, (ap (clauses_named s.choices) e ∙ named_none s.choices, tt)))))))
+    record {
+      some = s.some;
+      few = s.few;
+      low = omega arith;
+      high = s.high;
+      sound = ap encode_all e ∙ encode_none;
+      named = ap (clauses_named s.choices) e ∙ named_none s.choices;
+    }
 
 pub returns : goal.returns
 returns g c =

@@ -10,7 +10,14 @@ invariant_of-self g c =
     let s' = c.decide_by.new.store in
     let after = concluded_stored s.store.cells.now s'.cells.now s.store.used s.choices s.room c.args.assumptions.now c.decide_by.result (stored_of s) c.decide_by.ensures.answer in
     let r : Stored s'.cells.now s'.used s.choices s.room = subst (λ u. Stored s'.cells.now u s.choices s.room) (sym c.decide_by.ensures.used) after in
-    (r.some_choice, (r.few_choices, (r.low, (r.high, (r.sound, (r.named, tt))))))
+    record {
+      some = r.some_choice;
+      few = r.few_choices;
+      low = r.low;
+      high = r.high;
+      sound = r.sound;
+      named = r.named;
+    }
 
 pub returns : goal.returns
 returns g c =

@@ -14,7 +14,7 @@ pub returns-in_err-check_price : goal.returns-in_err-check_price
 unfolding price_a_answer
 returns-in_err-check_price g c =
     let j = c.args.self.now in
-    let p = err_from_is_err_and c.from-residual.result c.from-residual.ensures.1 in
+    let p = err_from_is_err_and c.from_residual.result c.from_residual.ensures.1 in
     rw (p.1, p.2)
     (record {
       answer = c.in_err-check_price.ensures
@@ -45,31 +45,19 @@ invariant_of-self g c =
     let d = price_passed j.sizes.choices j.sizes.price_room g.A.Scale.places.top ps c.args.mark c.args.place
     (c.in_ok-check_price.ensures ∙ same_answer j.sizes.choices j.sizes.price_room c.args.place c.top_place.ensures c.as_slice.ensures e) in
     let v : vec_len j.prices_a.entries ≡ length ps = j.prices_a.entries.ok.0 in
-    let u : vec_len c.push.new.self.entries ≡ length qs = c.push.new.self.entries.ok.0 in (
-      j.units,
-      (
-        j.rules_fit,
-        (
-          omega (arith, d.fits, v, u, ap length i, length-append ps (p ∷ [])),
-          (
-            j.b_fits,
-            (
-              j.kept_rules,
-              (
-                kept_price j.sizes.choices ps qs p i j.kept_a d.names d.first,
-                (
-                  j.kept_b,
-                  (
-                    j.rule_memory,
-                    (omega (arith, j.a_memory, c.push.ensures.room), (j.b_memory, tt)),
-                  ),
-                ),
-              ),
-            ),
-          ),
-        ),
-      ),
-    )
+    let u : vec_len c.push.new.self.entries ≡ length qs = c.push.new.self.entries.ok.0 in
+    record {
+      units = j.units;
+      rules_fit = j.rules_fit;
+      a_fits = omega (arith, d.fits, v, u, ap length i, length-append ps (p ∷ []));
+      b_fits = j.b_fits;
+      kept_rules = j.kept_rules;
+      kept_a = kept_price j.sizes.choices ps qs p i j.kept_a d.names d.first;
+      kept_b = j.kept_b;
+      rule_memory = j.rule_memory;
+      a_memory = omega (arith, j.a_memory, c.push.ensures.room);
+      b_memory = j.b_memory;
+    }
 
 pub returns : goal.returns
 unfolding price_a_answer

@@ -14,7 +14,7 @@ pub returns-in_err-check_price : goal.returns-in_err-check_price
 unfolding price_b_answer
 returns-in_err-check_price g c =
     let j = c.args.self.now in
-    let p = err_from_is_err_and c.from-residual.result c.from-residual.ensures.1 in
+    let p = err_from_is_err_and c.from_residual.result c.from_residual.ensures.1 in
     rw (p.1, p.2)
     (record {
       answer = c.in_err-check_price.ensures
@@ -45,31 +45,19 @@ invariant_of-self g c =
     let d = price_passed j.sizes.choices j.sizes.price_room g.B.Scale.places.top ps c.args.mark c.args.place
     (c.in_ok-check_price.ensures ∙ same_answer j.sizes.choices j.sizes.price_room c.args.place c.top_place.ensures c.as_slice.ensures e) in
     let v : vec_len j.prices_b.entries ≡ length ps = j.prices_b.entries.ok.0 in
-    let u : vec_len c.push.new.self.entries ≡ length qs = c.push.new.self.entries.ok.0 in (
-      j.units,
-      (
-        j.rules_fit,
-        (
-          j.a_fits,
-          (
-            omega (arith, d.fits, v, u, ap length i, length-append ps (p ∷ [])),
-            (
-              j.kept_rules,
-              (
-                j.kept_a,
-                (
-                  kept_price j.sizes.choices ps qs p i j.kept_b d.names d.first,
-                  (
-                    j.rule_memory,
-                    (j.a_memory, (omega (arith, j.b_memory, c.push.ensures.room), tt)),
-                  ),
-                ),
-              ),
-            ),
-          ),
-        ),
-      ),
-    )
+    let u : vec_len c.push.new.self.entries ≡ length qs = c.push.new.self.entries.ok.0 in
+    record {
+      units = j.units;
+      rules_fit = j.rules_fit;
+      a_fits = j.a_fits;
+      b_fits = omega (arith, d.fits, v, u, ap length i, length-append ps (p ∷ []));
+      kept_rules = j.kept_rules;
+      kept_a = j.kept_a;
+      kept_b = kept_price j.sizes.choices ps qs p i j.kept_b d.names d.first;
+      rule_memory = j.rule_memory;
+      a_memory = j.a_memory;
+      b_memory = omega (arith, j.b_memory, c.push.ensures.room);
+    }
 
 pub returns : goal.returns
 unfolding price_b_answer

@@ -14,7 +14,7 @@ pub returns-in_err-check_rule : goal.returns-in_err-check_rule
 unfolding rule_answer
 returns-in_err-check_rule g c =
     let j = c.args.self.now in
-    let p = err_from_is_err_and c.from-residual.result c.from-residual.ensures.1 in
+    let p = err_from_is_err_and c.from_residual.result c.from_residual.ensures.1 in
     rw (p.1, p.2)
     (record {
       answer = c.in_err-check_rule.ensures ∙ ap (λ (n : ℕ). refused_or (rule_fault j.sizes.choices n j.sizes.rule_room c.args.marks.now) tt) j.units;
@@ -42,31 +42,19 @@ invariant_of-self g c =
     let rs = vec_items j.rules in
     let qs = vec_items c.push_reserved.new.self in
     let p = rule_passed j.sizes.choices j.used j.sizes.rule_room c.args.marks.now c.in_ok-check_rule.ensures in
-    let e = units_next rs qs c.new.result ms c.push_reserved.ensures.items c.new.ensures in (
-      omega (arith, j.units),
-      (
-        omega (arith, p.fits),
-        (
-          j.a_fits,
-          (
-            j.b_fits,
-            (
-              kept_rule j.sizes.choices rs qs c.new.result ms c.push_reserved.ensures.items c.new.ensures j.kept_rules p.short p.names,
-              (
-                j.kept_a,
-                (
-                  j.kept_b,
-                  (
-                    omega (arith, j.rule_memory, c.push_reserved.ensures.capacity),
-                    (j.a_memory, (j.b_memory, tt)),
-                  ),
-                ),
-              ),
-            ),
-          ),
-        ),
-      ),
-    )
+    let e = units_next rs qs c.new.result ms c.push_reserved.ensures.items c.new.ensures in
+    record {
+      units = omega (arith, j.units);
+      rules_fit = omega (arith, p.fits);
+      a_fits = j.a_fits;
+      b_fits = j.b_fits;
+      kept_rules = kept_rule j.sizes.choices rs qs c.new.result ms c.push_reserved.ensures.items c.new.ensures j.kept_rules p.short p.names;
+      kept_a = j.kept_a;
+      kept_b = j.kept_b;
+      rule_memory = omega (arith, j.rule_memory, c.push_reserved.ensures.capacity);
+      a_memory = j.a_memory;
+      b_memory = j.b_memory;
+    }
 
 pub returns : goal.returns
 unfolding rule_answer

@@ -11,25 +11,15 @@ pub invariant_of-result : goal.invariant_of-result
 invariant_of-result g c =
     let z = c.zero.new.cells in
     let n = length-replicate c.args.sizes.choices (pos 0) in
-    let l = ap length c.zero.ensures ∙ length_over c.args.cells.now c.args.sizes.room (omega arith) (replicate c.args.sizes.choices (pos 0)) (omega arith) in (
-      c.args.sizes.some,
-      (
-        c.args.sizes.few,
-        (
-          omega arith,
-          (
-            omega arith,
-            (
-              ap encode_all (no_clauses z) ∙ encode_none,
-              (
-                ap (clauses_named c.args.sizes.choices) (no_clauses z) ∙ named_none c.args.sizes.choices,
-                tt,
-              ),
-            ),
-          ),
-        ),
-      ),
-    )
+    let l = ap length c.zero.ensures ∙ length_over c.args.cells.now c.args.sizes.room (omega arith) (replicate c.args.sizes.choices (pos 0)) (omega arith) in
+    record {
+      some = c.args.sizes.some;
+      few = c.args.sizes.few;
+      low = omega arith;
+      high = omega arith;
+      sound = ap encode_all (no_clauses z) ∙ encode_none;
+      named = ap (clauses_named c.args.sizes.choices) (no_clauses z) ∙ named_none c.args.sizes.choices;
+    }
 
 pub returns : goal.returns
 returns g c =

@@ -10,31 +10,19 @@ invariant_of-result g c =
     let a = ap vec_items c.new.ensures ∙ r.no_a in
     let b = ap vec_items c.new-2.ensures ∙ r.no_b in
     let va : vec_len c.new.result.entries ≡ length (vec_items c.new.result.entries) = c.new.result.entries.ok.0 in
-    let vb : vec_len c.new-2.result.entries ≡ length (vec_items c.new-2.result.entries) = c.new-2.result.entries.ok.0 in (
-      no_units (vec_items r.rules) r.no_rules,
-      (
-        omega arith,
-        (
-          omega (arith, va, ap length a),
-          (
-            omega (arith, vb, ap length b),
-            (
-              no_rules c.args.sizes.choices (vec_items r.rules) r.no_rules,
-              (
-                no_prices c.args.sizes.choices (vec_items c.new.result.entries) a,
-                (
-                  no_prices c.args.sizes.choices (vec_items c.new-2.result.entries) b,
-                  (
-                    r.rule_memory,
-                    (omega (arith, r.a_memory, ap vec_capacity c.new.ensures), (omega (arith, r.b_memory, ap vec_capacity c.new-2.ensures), tt)),
-                  ),
-                ),
-              ),
-            ),
-          ),
-        ),
-      ),
-    )
+    let vb : vec_len c.new-2.result.entries ≡ length (vec_items c.new-2.result.entries) = c.new-2.result.entries.ok.0 in
+    record {
+      units = no_units (vec_items r.rules) r.no_rules;
+      rules_fit = omega arith;
+      a_fits = omega (arith, va, ap length a);
+      b_fits = omega (arith, vb, ap length b);
+      kept_rules = no_rules c.args.sizes.choices (vec_items r.rules) r.no_rules;
+      kept_a = no_prices c.args.sizes.choices (vec_items c.new.result.entries) a;
+      kept_b = no_prices c.args.sizes.choices (vec_items c.new-2.result.entries) b;
+      rule_memory = r.rule_memory;
+      a_memory = omega (arith, r.a_memory, ap vec_capacity c.new.ensures);
+      b_memory = omega (arith, r.b_memory, ap vec_capacity c.new-2.ensures);
+    }
 
 pub returns : goal.returns
 returns g c =

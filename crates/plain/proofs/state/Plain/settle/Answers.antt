@@ -16,7 +16,7 @@ returns-in_err-within_a g c =
     let rs = c.as_slice.result.now in
     let s = c.in_ok-swept.ensures in
     let n = narrow_for (Fitting q) (Met rs) c.args.at c.loop-swept.here c.in_ok-swept.swept (λ w f. subst (λ (x : List Rule). Met x w) (sym c.as_slice.ensures.value) f.met) c.loop-swept.invariant s.0 in
-    rw c.from-residual-in_err-within_a.ensures (λ w a f. c.in_err-within_a.ensures w (n.keeps w a f) f.within_a)
+    rw c.from_residual-in_err-within_a.ensures (λ w a f. c.in_err-within_a.ensures w (n.keeps w a f) f.within_a)
 
 pub returns-in_err-next : goal.returns-in_err-next
 returns-in_err-next g c =
@@ -25,7 +25,7 @@ returns-in_err-next g c =
     let s = c.in_ok-swept.ensures in
     let n = narrow_for (Fitting q) (Met rs) c.args.at c.loop-swept.here c.in_ok-swept.swept (λ w f. subst (λ (x : List Rule). Met x w) (sym c.as_slice.ensures.value) f.met) c.loop-swept.invariant s.0 in
     let m = narrow_for (Fitting q) (Affordable q.scales.a q.prices_a c.args.a) c.args.at c.in_ok-swept.swept c.in_ok-within_a.within_a (λ w f. f.within_a) n c.in_ok-within_a.ensures.0 in
-    rw c.from-residual-in_err-next.ensures (λ w a f. c.in_err-next.ensures w (m.keeps w a f) f.within_b)
+    rw c.from_residual-in_err-next.ensures (λ w a f. c.in_err-next.ensures w (m.keeps w a f) f.within_b)
 
 pub loop-swept-preserved : goal.loop-swept-preserved
 loop-swept-preserved g c =

@@ -17,8 +17,8 @@ pub returns-in_err-price_a : goal.returns-in_err-price_a
 returns-in_err-price_a g c =
     let j = g.J.Judge in
     let p = c.args.self.now in
-    let x = err_from_is_err_and c.from-residual.result c.from-residual.ensures.1 in
-    let e : raised (Err c.in_err-price_a.field-0.0) ≡ c.from-residual.result = ap (λ (f : PlannerFault). Err f) (sym x.2) ∙ sym x.1 in
+    let x = err_from_is_err_and c.from_residual.result c.from_residual.ensures.1 in
+    let e : raised (Err c.in_err-price_a.field-0.0) ≡ c.from_residual.result = ap (λ (f : PlannerFault). Err f) (sym x.2) ∙ sym x.1 in
     let h = c.in_err-price_a.ensures in
     let done = extend_entered j.scales (priced_a c.args.mark c.args.place) (λ m. with_price_a m (price_of c.args.mark c.args.place)) (λ m. price_a_answer g.J.Judge.scales m c.args.mark c.args.place) (λ x q. refl) (λ x q e. e) j.meaning p.judge c.price_a.new.self (vec_items p.entries) p.listing
     (Err c.in_err-price_a.field-0.0) c.if-self.false (p.shut c.if-self.false) (h.answer ∙ ap (λ (k : ℤ). price_a_answer j.scales (j.meaning p.judge) k c.args.place) (to_z-of_z w8 c.args.mark c.ranges.mark)) h.after in

@@ -16,8 +16,8 @@ pub returns-in_err-rule : goal.returns-in_err-rule
 returns-in_err-rule g c =
     let j = g.J.Judge in
     let p = c.args.self.now in
-    let x = err_from_is_err_and c.from-residual.result c.from-residual.ensures.1 in
-    let e : raised (Err c.in_err-rule.field-0.0) ≡ c.from-residual.result = ap (λ (f : PlannerFault). Err f) (sym x.2) ∙ sym x.1 in
+    let x = err_from_is_err_and c.from_residual.result c.from_residual.ensures.1 in
+    let e : raised (Err c.in_err-rule.field-0.0) ≡ c.from_residual.result = ap (λ (f : PlannerFault). Err f) (sym x.2) ∙ sym x.1 in
     let h = c.in_err-rule.ensures in
     let done = extend_entered j.scales (ruled c.args.marks.now) (λ m. with_rule m c.args.marks.now) (λ m. rule_answer m c.args.marks.now) (λ x q. refl) (λ x q e. e) j.meaning p.judge c.rule.new.self (vec_items p.entries) p.listing
     (Err c.in_err-rule.field-0.0) c.if-self.false (p.shut c.if-self.false) h.answer h.after in

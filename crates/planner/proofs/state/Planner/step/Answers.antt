@@ -17,13 +17,12 @@ returns-then-below-eq0 g c =
 pub invariant_of-self-in-Some : goal.invariant_of-self-in-Some
 invariant_of-self-in-Some g c =
     let b : c.next_below-below.result ≡ last_b 201 (vec_items c.args.self.now.entries) = c.next_below-below.ensures ∙ ap (last_b 201) c.deref.ensures.value in
-    let e : last_b 201 (vec_items c.push_reserved.new.self) ≡ c.in-Some.entry.b = ap (last_b 201) c.push_reserved.ensures.items ∙ last_more 201 (vec_items c.args.self.now.entries) c.in-Some.entry in (
-      omega (arith, c.push_reserved.ensures.capacity, c.args.self.now.memory),
-      (
-        omega (arith, e, b, c.push_reserved.ensures.len, c.in-Some.ensures.answer.in_bound, c.args.self.now.falls),
-        (λ q. absurd (both_ways _ q refl), tt),
-      ),
-    )
+    let e : last_b 201 (vec_items c.push_reserved.new.self) ≡ c.in-Some.entry.b = ap (last_b 201) c.push_reserved.ensures.items ∙ last_more 201 (vec_items c.args.self.now.entries) c.in-Some.entry in
+    record {
+      memory = omega (arith, c.push_reserved.ensures.capacity, c.args.self.now.memory);
+      falls = omega (arith, e, b, c.push_reserved.ensures.len, c.in-Some.ensures.answer.in_bound, c.args.self.now.falls);
+      shut = λ q. absurd (both_ways _ q refl);
+    }
 
 pub returns-in-Some : goal.returns-in-Some
 returns-in-Some g c =

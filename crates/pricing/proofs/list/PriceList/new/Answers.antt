@@ -9,13 +9,11 @@ use Rattle.pricing.proofs.list.PriceList.new.Goals as goal
 pub invariant_of-result : goal.invariant_of-result
 unfolding all_are_named marks_in price_at ups_of downs_of ups_from downs_from
 invariant_of-result c =
-    let e = c.requires in (
-      ap (λ (ps : List Price). all_are_named 64 (marks_in ps)) e,
-      (
-        λ k i. zero_table k ∙ sym (ap (λ (ps : List Price). price_at ps (take_mark k)) e),
-        (
-          λ k i. zero_table k ∙ sym (ap (λ (ps : List Price). price_at ps (leave_mark k)) e),
-          (sym (ap (λ (ps : List Price). ups_of (marks_in ps)) e), (sym (ap (λ (ps : List Price). downs_of (marks_in ps)) e), tt)),
-        ),
-      ),
-    )
+    let e = c.requires in
+    record {
+      named = ap (λ (ps : List Price). all_are_named 64 (marks_in ps)) e;
+      take_table = λ k i. zero_table k ∙ sym (ap (λ (ps : List Price). price_at ps (take_mark k)) e);
+      leave_table = λ k i. zero_table k ∙ sym (ap (λ (ps : List Price). price_at ps (leave_mark k)) e);
+      up_word = sym (ap (λ (ps : List Price). ups_of (marks_in ps)) e);
+      down_word = sym (ap (λ (ps : List Price). downs_of (marks_in ps)) e);
+    }

@@ -19,16 +19,11 @@ invariant_of-self c =
     let a : c.choice_bit-k.result < length l.taking = search rules in
     let b : c.choice_bit-k.result < length l.leaving = search rules in
     let t : c.sides-take.result.0 ≡ take_side c.args.mark c.args.place = ap (λ (x : ℕ × ℕ). x.0) c.sides-take.ensures ∙ ap (λ (m : ℤ). take_side m c.args.place) f in
-    let v : c.sides-take.result.1 ≡ leave_side c.args.mark c.args.place = ap (λ (x : ℕ × ℕ). x.1) c.sides-take.ensures ∙ ap (λ (m : ℤ). leave_side m c.args.place) f in (
-      named_next 64 ps qs p i l.named c.requires.named,
-      (
-        take_next ps qs p l.taking c.choice_bit-k.result c.max.result i k a c.requires.named (c.max.ensures ∙ ap (max (get_or l.taking c.choice_bit-k.result 0)) t) l.take_table,
-        (
-          leave_next ps qs p l.leaving c.choice_bit-k.result c.max-2.result i k b c.requires.named (c.max-2.ensures ∙ ap (max (get_or l.leaving c.choice_bit-k.result 0)) v) l.leave_table,
-          (
-            ups_next ps qs p l.ups c.up_word.result i l.up_word (c.up_word.ensures ∙ ap up_bit f),
-            (downs_next ps qs p l.downs c.down_word.result i l.down_word (c.down_word.ensures ∙ ap down_bit f), tt),
-          ),
-        ),
-      ),
-    )
+    let v : c.sides-take.result.1 ≡ leave_side c.args.mark c.args.place = ap (λ (x : ℕ × ℕ). x.1) c.sides-take.ensures ∙ ap (λ (m : ℤ). leave_side m c.args.place) f in
+    record {
+      named = named_next 64 ps qs p i l.named c.requires.named;
+      take_table = take_next ps qs p l.taking c.choice_bit-k.result c.max.result i k a c.requires.named (c.max.ensures ∙ ap (max (get_or l.taking c.choice_bit-k.result 0)) t) l.take_table;
+      leave_table = leave_next ps qs p l.leaving c.choice_bit-k.result c.max-2.result i k b c.requires.named (c.max-2.ensures ∙ ap (max (get_or l.leaving c.choice_bit-k.result 0)) v) l.leave_table;
+      up_word = ups_next ps qs p l.ups c.up_word.result i l.up_word (c.up_word.ensures ∙ ap up_bit f);
+      down_word = downs_next ps qs p l.downs c.down_word.result i l.down_word (c.down_word.ensures ∙ ap down_bit f);
+    }

@@ -45,16 +45,13 @@ pub invariant_of-result : goal.invariant_of-result
 invariant_of-result c =
     let ms = c.args.marks.now in
     let e = all_held ms c.loop-i.held c.loop-i.i c.loop-i.auto.i-end c.loop-i-test.false c.loop-i.invariant.1 in
-    let t = take_all c.loop-i.i ms c.loop-i-test.false in (
-      c.requires.short,
-      (
-        ap (all_are_named 64) e ∙ c.requires.named,
-        (
-          c.loop-i.invariant.2 ∙ ap ups_of (t ∙ sym e),
-          (c.loop-i.invariant.3 ∙ ap downs_of (t ∙ sym e), tt),
-        ),
-      ),
-    )
+    let t = take_all c.loop-i.i ms c.loop-i-test.false in
+    record {
+      short = c.requires.short;
+      named = ap (all_are_named 64) e ∙ c.requires.named;
+      up_word = c.loop-i.invariant.2 ∙ ap ups_of (t ∙ sym e);
+      down_word = c.loop-i.invariant.3 ∙ ap downs_of (t ∙ sym e);
+    }
 
 pub returns : goal.returns
 returns c = all_held c.args.marks.now c.loop-i.held c.loop-i.i c.loop-i.auto.i-end c.loop-i-test.false c.loop-i.invariant.1
