@@ -3,6 +3,8 @@
 use Rattle.std.specs.Prelude.{◌≡◌, ℕ, zero, suc, Bool, true, false, cond, List, [], ◌∷◌, ◌++◌, ℤ, Some, None, Ok, Err, vec_items, Option, Result}
 use Rattle.design.specs.declared.fault.JudgeFault.{JudgeFault}
 use Rattle.design.specs.Plan.{Scales, Meaning}
+use Rattle.scales.specs.declared.Scale.{Ghosts as ScaleGhosts}
+use Rattle.judge.specs.declared.Judge.{Ghosts}
 use Rattle.judge.specs.Calls.{rule_answer, price_a_answer, price_b_answer, with_rule, with_price_a, with_price_b, price_of}
 use Rattle.planner.specs.declared.entry.Entry.{Entry}
 use Rattle.planner.specs.declared.entry.Answer.{Answer}
@@ -101,5 +103,5 @@ abbrev pub Steps : Scales → State → Answer → State → Type 0
 Steps s x r y = (o : Option Entry) × Shown r o × Extends s x (stepped o) y
 
 -- a planner by its judge's meaning, its list and whether a listing is open
-abbrev pub state_in : {J P Q V W : Type 0} → (J → Meaning) → Planner J P Q V W → State
+abbrev pub state_in : {J P Q V W : Type 0} {j : Ghosts J P Q V W} {p : ScaleGhosts P V} {q : ScaleGhosts Q W} → (J → Meaning) → Planner J P Q V W j p q → State
 state_in meaning p = state_at (meaning p.judge) (vec_items p.entries) p.listing

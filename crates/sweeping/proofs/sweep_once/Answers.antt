@@ -19,14 +19,14 @@ visit-requires c =
       named = q.named;
     }
 
-pub returns-in-default : goal.returns-in-default
-returns-in-default c =
+pub returns-in_default : goal.returns-in_default
+returns-in_default c =
     let l = c.args.layout.now in
     let s₀ = c.args.store.now in
-    let e = c.in-default.ensures.0 in (
+    let e = c.in_default.ensures.0 in (
       subst (λ x. Reached (Meets (clauses_at s₀ l)) l s₀ c.args.start x c.loop-at.sweep.top) (sym e) c.loop-at.invariant.reached,
       subst (λ x. Nowhere (Meets (clauses_at s₀ l)) (values_in x l)) (sym e)
-          (clashing l s₀ c.loop-at.store c.args.start c.loop-at.at c.loop-at.sweep c.requires c.loop-at.invariant c.loop-at-test.true c.in-default.ensures.1),
+          (clashing l s₀ c.loop-at.store c.args.start c.loop-at.at c.loop-at.sweep c.requires c.loop-at.invariant c.loop-at-test.true c.in_default.ensures.1),
     )
 
 pub loop-at-preserved : goal.loop-at-preserved

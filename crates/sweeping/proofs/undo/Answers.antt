@@ -12,8 +12,8 @@ one_back c =
     back c.args.layout.now c.args.store.now c.loop-end.store c.args.base c.loop-end.end c.args.top c.place.result
     c.loop-end-test.true c.loop-end.invariant.1 c.requires.high c.requires.long c.requires.named c.loop-end.invariant.2 (c.place.ensures ∙ ap bit_of (to_z-of_z w16 z f))
 
-pub slice_set-of·store : goal.slice_set-of·store
-slice_set-of·store c = let b = one_back c in omega (arith, b.below, c.requires.long)
+pub slice_set_of-store : goal.slice_set_of-store
+slice_set_of-store c = let b = one_back c in omega (arith, b.below, c.requires.long)
 
 pub loop-end-preserved : goal.loop-end-preserved
 loop-end-preserved c = let b = one_back c in (omega arith, omega arith, b.front, b.same ∙ c.loop-end.invariant.3)

@@ -4,13 +4,13 @@ use Rattle.totalizer.proofs.Fits.{numbered}
 use Rattle.tree.proofs.Products.{few_extra}
 use Rattle.tree.proofs.choices_needed.Goals as goal
 
-pub overflow-mul-result : goal.overflow-mul-result
-overflow-mul-result g c =
+pub overflow_mul-result : goal.overflow_mul-result
+overflow_mul-result g c =
     let h = few_extra (c.args.sizes.price_room - 1) (c.top_place.result + c.top_place-2.result) (omega (arith, c.args.sizes.few_prices)) (omega (arith, g.A.Scale.laws.high, g.B.Scale.laws.high)) in
     record { fits = omega arith }
 
-pub overflow-add-result : goal.overflow-add-result
-overflow-add-result g c =
+pub overflow_add-result : goal.overflow_add-result
+overflow_add-result g c =
     let h = few_extra (c.args.sizes.price_room - 1) (c.top_place.result + c.top_place-2.result) (omega (arith, c.args.sizes.few_prices)) (omega (arith, g.A.Scale.laws.high, g.B.Scale.laws.high)) in
     record { fits = omega (arith, c.args.sizes.few_choices) }
 

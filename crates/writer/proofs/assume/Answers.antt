@@ -4,7 +4,7 @@ use Rattle.writer.specs.Writes.{Short}
 use Rattle.writer.proofs.Opposites.{turned}
 use Rattle.writer.proofs.Marks.{said_more, quiet_more, marks_start, assumed_none, assumed_all}
 use Rattle.writer.proofs.assume.Goals as goal
-use Rattle.writer.proofs.assume.Goals.{in-Mark, in-default}
+use Rattle.writer.proofs.assume.Goals.{in-Mark, in_default}
 
 pub loop-above-init : goal.loop-above-init
 loop-above-init c = (omega arith, omega arith, marks_start _ _)
@@ -22,11 +22,11 @@ loop-above-preserved c =
         said_more c.loop-above.marks c.match-literal_of.marks (take c.args.from c.args.marks.now) c.loop-above.used c.match-literal_of.used c.loop-above.above
             w.in-Mark.mark _ c.literal_of.result g c.loop-above.invariant.2 (omega arith) w.marks-is w.used-is (turned w.in-Mark.mark (subst Short w.in-Mark.is c.literal_of.ensures.short)) w.in-Mark.is t,
       )
-      | in-default w ↦ (
+      | in_default w ↦ (
         omega (arith, w.used-is),
         omega (arith, w.used-is),
         quiet_more c.loop-above.marks c.match-literal_of.marks (take c.args.from c.args.marks.now) c.loop-above.used c.match-literal_of.used c.loop-above.above
-            c.literal_of.result g c.loop-above.invariant.2 w.marks-is w.used-is w.in-default.not-Mark t,
+            c.literal_of.result g c.loop-above.invariant.2 w.marks-is w.used-is w.in_default.not-Mark t,
       )
     ]
 

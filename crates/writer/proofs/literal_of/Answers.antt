@@ -8,8 +8,8 @@ use Rattle.writer.proofs.literal_of.Goals as goal
 pub number_of-requires : goal.number_of-requires
 number_of-requires c = omega (arith, number_last c.args.base c.args.top (length c.args.prices.now) c.args.node c.args.place)
 
-pub overflow-cast-result : goal.overflow-cast-result
-overflow-cast-result c =
+pub overflow_cast-result : goal.overflow_cast-result
+overflow_cast-result c =
     let h : c.number_of.result < 32768 = omega (arith, number_last c.args.base c.args.top (length c.args.prices.now) c.args.node c.args.place) in
     search rules
 

@@ -12,7 +12,7 @@ pub returns-then-below-eq0 : goal.returns-then-below-eq0
 returns-then-below-eq0 g c =
     let j = g.J.Judge in
     let z : last_b 201 (vec_items c.args.self.now.entries) ≡ 0 = ap (last_b 201) (sym c.deref.ensures.value) ∙ sym c.next_below-below.ensures ∙ c.if-below-eq0.true in
-    record { run = (None, tt, extend_none j.scales _ _ _ _ (subst PlaceLaws (ap (λ (x : Scales). x.b) (sym g.met.J.Judge.tied)) (place_laws _ _ _ _ g.CostB.Scale.laws)) (reads_as j.scales _ (j.table c.args.self.now.judge) (subst PlaceLaws (ap (λ (x : Scales). x.a) (sym g.met.J.Judge.tied)) (place_laws _ _ _ _ g.CostA.Scale.laws)) (subst PlaceLaws (ap (λ (x : Scales). x.b) (sym g.met.J.Judge.tied)) (place_laws _ _ _ _ g.CostB.Scale.laws))) (λ v p lt. omega arith) refl) }
+    record { run = (None, tt, extend_none j.scales _ _ _ _ (subst PlaceLaws (ap (λ (x : Scales). x.b) (sym g.met.J.Judge.tied)) (place_laws _ _ _ _ g.J.CostB.Scale.laws)) (reads_as j.scales _ (j.table c.args.self.now.judge) (subst PlaceLaws (ap (λ (x : Scales). x.a) (sym g.met.J.Judge.tied)) (place_laws _ _ _ _ g.J.CostA.Scale.laws)) (subst PlaceLaws (ap (λ (x : Scales). x.b) (sym g.met.J.Judge.tied)) (place_laws _ _ _ _ g.J.CostB.Scale.laws))) (λ v p lt. omega arith) refl) }
 
 pub invariant_of-self-in-Some : goal.invariant_of-self-in-Some
 invariant_of-self-in-Some g c =
@@ -32,7 +32,7 @@ returns-in-Some g c =
       run = (
         Some c.in-Some.entry,
         (refl, refl),
-        extend_some j.scales _ _ _ _ _ _ _ (subst PlaceLaws (ap (λ (x : Scales). x.b) (sym g.met.J.Judge.tied)) (place_laws _ _ _ _ g.CostB.Scale.laws)) (omega (arith, b)) c.in-Some.ensures.answer c.find_least.ensures.same c.push_reserved.ensures.items,
+        extend_some j.scales _ _ _ _ _ _ _ (subst PlaceLaws (ap (λ (x : Scales). x.b) (sym g.met.J.Judge.tied)) (place_laws _ _ _ _ g.J.CostB.Scale.laws)) (omega (arith, b)) c.in-Some.ensures.answer c.find_least.ensures.same c.push_reserved.ensures.items,
       );
     }
 
@@ -44,6 +44,6 @@ returns-in-None g c =
       run = (
         None,
         tt,
-        extend_none j.scales _ _ _ _ (subst PlaceLaws (ap (λ (x : Scales). x.b) (sym g.met.J.Judge.tied)) (place_laws _ _ _ _ g.CostB.Scale.laws)) (reads_as j.scales _ (j.table c.args.self.now.judge) (subst PlaceLaws (ap (λ (x : Scales). x.a) (sym g.met.J.Judge.tied)) (place_laws _ _ _ _ g.CostA.Scale.laws)) (subst PlaceLaws (ap (λ (x : Scales). x.b) (sym g.met.J.Judge.tied)) (place_laws _ _ _ _ g.CostB.Scale.laws))) (λ v p lt. c.in-None.ensures.answer v p (omega (arith, b))) c.find_least.ensures.same,
+        extend_none j.scales _ _ _ _ (subst PlaceLaws (ap (λ (x : Scales). x.b) (sym g.met.J.Judge.tied)) (place_laws _ _ _ _ g.J.CostB.Scale.laws)) (reads_as j.scales _ (j.table c.args.self.now.judge) (subst PlaceLaws (ap (λ (x : Scales). x.a) (sym g.met.J.Judge.tied)) (place_laws _ _ _ _ g.J.CostA.Scale.laws)) (subst PlaceLaws (ap (λ (x : Scales). x.b) (sym g.met.J.Judge.tied)) (place_laws _ _ _ _ g.J.CostB.Scale.laws))) (λ v p lt. c.in-None.ensures.answer v p (omega (arith, b))) c.find_least.ensures.same,
       );
     }
