@@ -2,6 +2,8 @@
 use Rattle.std.specs.Prelude.{◌≡◌, ℕ, Some, None, Ok, Err, Option}
 use Rattle.design.specs.declared.fault.JudgeFault.{JudgeFault}
 use Rattle.design.specs.Plan.{Scales, Meaning}
+use Rattle.scales.specs.declared.Scale.{Ghosts as ScaleGhosts}
+use Rattle.judge.specs.declared.Judge.{Ghosts}
 use Rattle.judge.specs.Calls.{no_entries}
 use Rattle.decode.specs.declared.command.Command.{Command}
 use Rattle.decode.specs.declared.command.Command.TheVariants as command
@@ -17,7 +19,7 @@ use Rattle.job.specs.declared.stage.Stage.TheVariants.{Waiting, Working}
 use Rattle.job.specs.Performing.{Reply, call_of, reply_of}
 
 -- the planner's state, once a set-up was accepted
-abbrev pub planner_of : {M J P Q V W : Type 0} → (J → Meaning) → Stage M J P Q V W → Option State
+abbrev pub planner_of : {M J P Q V W : Type 0} {j : Ghosts J P Q V W} {p : ScaleGhosts P V} {q : ScaleGhosts Q W} → (J → Meaning) → Stage M J P Q V W j p q → Option State
 planner_of meaning (Waiting maker room) = None
 planner_of meaning (Working p) = Some (state_in meaning p)
 
@@ -39,7 +41,7 @@ SetsUp s refusal x before c r y after = (n q k : ℕ) → before ≡ None → c 
     → (refusal n q k ≡ None → (r ≡ Ok out.Done) × (after ≡ Some (start (no_entries n q k s.a.top s.b.top))))
     × ((f : JudgeFault) → refusal n q k ≡ Some f → (r ≡ Err (Planner (fault.Judge f))) × (y ≡ x))
 
-pub record Performs {M J P Q V W : Type 0} (s : Scales) (meaning : J → Meaning) (refusal : ℕ → ℕ → ℕ → Option JudgeFault) (x : Stage M J P Q V W) (c : Command) (r : Reply) (y : Stage M J P Q V W) : Type 0 where
+pub record Performs {M J P Q V W : Type 0} {j : Ghosts J P Q V W} {p : ScaleGhosts P V} {q : ScaleGhosts Q W} (s : Scales) (meaning : J → Meaning) (refusal : ℕ → ℕ → ℕ → Option JudgeFault) (x : Stage M J P Q V W j p q) (c : Command) (r : Reply) (y : Stage M J P Q V W j p q) : Type 0 where
   pub plays : Plays s (planner_of meaning x) (call_of c) r (planner_of meaning y)
   pub keeps_order : KeepsOrder x (planner_of meaning x) (call_of c) r y
   pub sets_up : SetsUp s refusal x (planner_of meaning x) c r y (planner_of meaning y)

@@ -38,7 +38,7 @@ fn show_refusal<W: fmt::Write>(
     offset: usize,
     fault: JobFault,
 ) -> fmt::Result
-    ensures { WritesOnOk write_str_gives f.old result (refusal_text «offset» fault) f.new }
+    ensures { WritesOnOk W.write_str_gives f.old result (refusal_text «offset» fault) f.new }
 {
     let number = fault.number();
     let layer = fault.layer().name();

@@ -29,7 +29,7 @@ fn digit(n: u8) -> char
 
 // The last digits of a word, the lowest at the end.
 fn show_digits<W: fmt::Write>(f: &mut fmt::Formatter<W>, word: u64, count: u8) -> fmt::Result
-    ensures { WritesOnOk write_str_gives f.old result (hex count word) f.new }
+    ensures { WritesOnOk W.write_str_gives f.old result (hex count word) f.new }
 {
     if count == 0 {
         return Ok(());

@@ -15,8 +15,8 @@ loop-i-preserved g c =
       widened c.args.marks.now c.loop-i.clause c.loop-i.i f c.loop-i-test.true (omega (arith, c.loop-i.invariant.0, c.requires.short)) c.loop-i.invariant.1,
     )
 
-pub slice-bounds-append-end : goal.slice-bounds-append-end
-slice-bounds-append-end g c = let h : length c.loop-i.clause ≡ 8 = c.loop-i.invariant.0 in let k = c.requires.short in search rules
+pub slice_bounds-append-end : goal.slice_bounds-append-end
+slice_bounds-append-end g c = let h : length c.loop-i.clause ≡ 8 = c.loop-i.invariant.0 in let k = c.requires.short in search rules
 
 pub append-requires : goal.append-requires
 append-requires g c =

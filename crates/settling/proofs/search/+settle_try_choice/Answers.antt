@@ -10,8 +10,8 @@ use Rattle.sweeping.proofs.Reaching.{ready_after, clauses_stay}
 use Rattle.deciding.proofs.Trying.{Tried, first_tried, next_tried, fewer, tried_ready, tried_found, both_lost, inside, all_met, reached_found, top_low, undone, lost_none}
 use Rattle.settling.proofs.search.+settle_try_choice.Goals as goal
 
-pub settle_try_choice-requires : goal.settle_try_choice-requires
-settle_try_choice-requires t c =
+pub settle-try_choice-requires : goal.settle-try_choice-requires
+settle-try_choice-requires t c =
     let l = c.args.layout.now in
     let s = c.args.store.now in
     let s₁ = c.propagate.new.store in
