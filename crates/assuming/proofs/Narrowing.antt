@@ -1,10 +1,10 @@
 -- One assumption after the other.
-use Rattle.std.proofs.Common.{◌≡◌, ℕ, zero, suc, ◌+◌, ◌-◌, ◌<◌, ◌≤◌, Bool, true, false, ◌&&◌, List, [], ◌∷◌, length, get_or, take, drop, set, replicate, ℤ, pos, sym, refl, ap, ◌∙◌, subst, arith, length-set, w16, SFits, to_z, of_z}
+use Rattle.std.proofs.Common.{◌≡◌, ℕ, zero, suc, ◌+◌, ◌-◌, ◌<◌, ◌≤◌, Bool, true, false, List, length, get_or, take, drop, set, replicate, ℤ, pos, sym, refl, ap, ◌∙◌, subst, arith, length-set, w16, SFits, to_z, of_z}
 use Rattle.std.proofs.lemmas.List.{take-set-le, drop_more, drop_all, length-replicate}
 use Rattle.std.proofs.lemmas.Bool.{and_parts, and_from, false≢true}
 use Rattle.std.proofs.lemmas.Int.{to_z-of_z}
-use Rattle.design.specs.Mark.{named, all_are_named, bit_of}
-use Rattle.design.proofs.OfMarks.{bit_below, all_at}
+use Rattle.design.specs.Mark.{named, bit_of}
+use Rattle.design.proofs.OfMarks.{bit_below}
 use Rattle.solver.specs.Setting.{setting, truth, all_true}
 use Rattle.store.specs.Parts.{part, over}
 use Rattle.store.specs.Long.{part_long}

@@ -1,5 +1,5 @@
 -- Assumptions as values: marks that are all to be true.
-use Rattle.std.specs.Prelude.{◌≡◌, ℕ, ◌+◌, Bool, true, false, List, length, take, ℤ}
+use Rattle.std.specs.Prelude.{◌≡◌, Bool, true, false, List, length, take, ℤ}
 use Rattle.solver.specs.Setting.{setting, truth, all_true}
 use Rattle.values.specs.Partial.{Agrees}
 use Rattle.sweeping.specs.declared.layout.Layout.{Layout}

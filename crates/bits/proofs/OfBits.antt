@@ -1,7 +1,7 @@
-use Rattle.std.proofs.Common.{◌≡◌, ℕ, zero, suc, ◌+◌, ◌-◌, ◌*◌, ◌/◌, ◌%◌, ◌^◌, ◌<◌, ◌≤◌, min, max, Bool, true, false, not, ◌&&◌, ◌||◌, eqb, ◌⊎◌, sym, refl, ap, ◌∙◌, subst, inl, inr, mod-eq_of_lt, add-mul, one-mul, arith}
-use lib.Bits.{bit_and, bit_or, bit_xor, and_step, or_step, xor_step, differ, xor_lt, and_le_l, and_le_r}
-use Rattle.std.proofs.lemmas.Nat.{and_mask, and_shr, or_shr, xor_shr, one_shl, pow_pos, pow-add, shl-shr, shr-shr, mod_below, pow_below, div_below, le-div, leading_top}
-use Rattle.std.proofs.lemmas.Bool.{eq-eqb, cases_lt}
+use Rattle.std.proofs.Common.{◌≡◌, ℕ, zero, suc, ◌+◌, ◌-◌, ◌*◌, ◌/◌, ◌%◌, ◌^◌, ◌<◌, ◌≤◌, min, max, Bool, true, false, not, ◌&&◌, ◌||◌, eqb, ◌⊎◌, sym, refl, ap, ◌∙◌, inl, inr, mod-eq_of_lt, add-mul, one-mul, arith}
+use lib.Bits.{bit_and, bit_or, bit_xor, and_step, or_step, xor_step, differ, xor_lt, and_le_l}
+use Rattle.std.proofs.lemmas.Nat.{and_mask, and_shr, or_shr, xor_shr, one_shl, pow_pos, pow-add, shl-shr, shr-shr, mod_below, pow_below, div_below, le-div}
+use Rattle.std.proofs.lemmas.Bool.{cases_lt}
 use Rattle.bits.specs.Bit.{bit, Single}
 
 -- a bit as a number

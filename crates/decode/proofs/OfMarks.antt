@@ -1,5 +1,5 @@
 -- The eight marks of a rule, one by one.
-use Rattle.std.proofs.Common.{◌≡◌, ℕ, ◌+◌, ◌≤◌, List, [], ◌∷◌, map, length, ℤ, Ok, Err, Result, sym, ap, ◌∙◌, w8, SFits, to_z, of_z}
+use Rattle.std.proofs.Common.{◌≡◌, ℕ, ◌+◌, ◌≤◌, List, map, length, ℤ, Ok, sym, ap, ◌∙◌, w8, SFits, to_z, of_z}
 use Rattle.std.proofs.lemmas.Int.{to_z-of_z}
 use Rattle.std.proofs.lemmas.Bool.{le-leb}
 use Rattle.decode.specs.declared.command.Command.TheVariants.{Rule}

@@ -1,5 +1,5 @@
 -- The format of a job. Each command is a command byte with operands of a fixed size.
-use Rattle.std.specs.Prelude.{ℕ, ◌+◌, ◌*◌, ◌<◌, ◌≤◌, cond, List, [], ◌∷◌, map, length, take, drop, ℤ, pos, ◌-ℤ◌, Some, None, Ok, Err, Option, Result, ◌==◌, nat_le, nat_lt, slice_index}
+use Rattle.std.specs.Prelude.{ℕ, ◌+◌, ◌*◌, ◌<◌, ◌≤◌, cond, List, map, length, take, drop, ℤ, pos, ◌-ℤ◌, Some, None, Ok, Err, Option, Result, ◌==◌, nat_le, nat_lt, slice_index}
 use Rattle.decode.specs.declared.command.Command.{Command}
 use Rattle.decode.specs.declared.command.Command.TheVariants.{SetUp, Rule, PriceA, PriceB, Step, Restart, Read}
 use Rattle.decode.specs.declared.command.Spoilt.{Spoilt}

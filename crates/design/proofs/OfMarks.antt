@@ -1,9 +1,9 @@
 -- Marks: what the tests on them say.
-use Rattle.std.proofs.Common.{◌≡◌, ℕ, zero, suc, ◌+◌, ◌-◌, ◌<◌, ◌≤◌, Bool, true, false, not, ◌&&◌, ltb, leb, List, [], ◌∷◌, length, get_or, ℤ, pos, negsuc, nat_abs, sym, refl, ap, ◌∙◌, subst, arith, w8, SFits, ltb-true, lt-ltb, le-leb, leb-true}
+use Rattle.std.proofs.Common.{◌≡◌, ℕ, zero, suc, ◌+◌, ◌<◌, ◌≤◌, true, ◌&&◌, ltb, List, [], ◌∷◌, length, get_or, ℤ, pos, negsuc, nat_abs, refl, ap, arith, w8, SFits, ltb-true, lt-ltb, le-leb, leb-true}
 use Rattle.std.proofs.lemmas.List.{nil_from_length}
 use Rattle.std.proofs.lemmas.Slice.{first_rest}
 use Rattle.std.specs.List.{between}
-use Rattle.design.specs.Mark.{named, all_are_named, bit_of, holds}
+use Rattle.design.specs.Mark.{named, all_are_named, bit_of}
 use Rattle.design.proofs.Truth.{both, left_of, right_of}
 
 pub all_none : (n : ℕ) (ms : List ℤ) → length ms ≡ 0 → all_are_named n ms ≡ true

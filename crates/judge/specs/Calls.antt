@@ -1,6 +1,5 @@
 -- What the calls that enter something answer, and what they leave.
-use Rattle.std.specs.Prelude.{◌≡◌, ℕ, ◌+◌, Bool, true, false, not, ◌||◌, List, [], ◌∷◌, ◌++◌, length, ℤ, Ok, Err, Option, Result, nat_le, nat_lt}
-use Rattle.scales.specs.Laws.{Places}
+use Rattle.std.specs.Prelude.{◌≡◌, ℕ, ◌+◌, Bool, not, ◌||◌, List, [], ◌∷◌, ◌++◌, length, ℤ, Ok, Err, Option, Result, nat_le, nat_lt}
 use Rattle.design.specs.Mark.{named, all_are_named}
 use Rattle.design.specs.Rule.{rule_units, units_used}
 use Rattle.design.specs.Cost.{priced}

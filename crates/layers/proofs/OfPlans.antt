@@ -1,6 +1,6 @@
 -- Plans of a layer, by those of the judge below it.
-use Rattle.std.proofs.Common.{◌≡◌, ℕ, ◌≤◌, min, Some, None, Option, arith}
-use Rattle.design.specs.Plan.{Scales, Meaning, Plan, Within, Sought, cost_a, cost_b}
+use Rattle.std.proofs.Common.{ℕ, min, Some, None, Option, arith}
+use Rattle.design.specs.Plan.{Scales, Meaning, Within, Sought, cost_a, cost_b}
 use Rattle.layers.specs.Meanings.{lowered, swapped, swapped_scales}
 
 -- a plan under limits is one within the lowered bounds, and the other way round

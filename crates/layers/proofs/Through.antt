@@ -1,5 +1,5 @@
 -- Calls that are handed on to the judge below.
-use Rattle.std.proofs.Common.{◌≡◌, Ok, Err, Result, refl, ap, ◌∙◌}
+use Rattle.std.proofs.Common.{◌≡◌, Ok, Err, Result, ap, ◌∙◌}
 use Rattle.design.specs.declared.fault.JudgeFault.{JudgeFault}
 use Rattle.design.specs.Plan.{Meaning}
 use Rattle.judge.specs.Calls.{Entered}

@@ -1,17 +1,16 @@
 -- From what the search found to what the judge answers.
-use Rattle.std.proofs.Common.{◌≡◌, ℕ, ◌-◌, ◌^◌, ◌<◌, ◌≤◌, Some, None, Option, sym, refl, ap, ◌∙◌, subst, arith}
+use Rattle.std.proofs.Common.{◌≡◌, ℕ, ◌-◌, ◌^◌, Some, None, Option, sym, subst, arith}
 use Rattle.std.proofs.lemmas.Nat.{pow_pos}
 use Rattle.design.specs.Mark.{holds}
-use Rattle.design.specs.Plan.{Scales, Plan, Within, Sought, cost_a, cost_b}
+use Rattle.design.specs.Plan.{Scales, Sought, cost_a, cost_b}
 use Rattle.design.proofs.Totals.{total_under}
 use Rattle.scales.proofs.ByPlaces.{PlaceLaws}
-use Rattle.propagation.specs.declared.partial.Partial.{Partial}
 use Rattle.propagation.specs.Narrowing.{Agrees}
 use Rattle.plain.specs.declared.state.Plain.{Plain}
 use Rattle.plain.specs.Held.{meaning_of}
 use Rattle.plain.specs.Asked.{query}
-use Rattle.plain.specs.Search.{Query, Fitting, Found}
-use Rattle.plain.proofs.Searching.{Sound, all_open}
+use Rattle.plain.specs.Search.{Found}
+use Rattle.plain.proofs.Searching.{all_open}
 
 pub answered : {X Y : Type 0} (s : Scales) (j : Plain X Y) (a b up : ℕ) (r : Option ℕ) → PlaceLaws s.a → PlaceLaws s.b → up ≡ 2 ^ j.sizes.choices - 1
     → Found (query s j a b) (record { up = up; down = 2 ^ 64 - 1 }) r → Sought s (meaning_of s j) a b r

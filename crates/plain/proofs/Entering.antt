@@ -1,7 +1,6 @@
 -- A rule or a price more: what a check let pass keeps the table as it has to be.
-use Rattle.std.proofs.Common.{◌≡◌, ℕ, ◌+◌, ◌<◌, ◌≤◌, Bool, true, false, cond, not, ◌&&◌, ◌||◌, ltb, leb, ◌⊎◌, List, [], ◌∷◌, ◌++◌, map, length, ℤ, Ok, Err, Result, sym, refl, ap, ◌∙◌, subst, inl, inr, arith}
-use Rattle.std.proofs.lemmas.Bool.{ltb-false, leb-false, le-leb, not-false, not_from_false, not-true, or_parts, or_from, or_left, both_ways}
-use Rattle.std.proofs.lemmas.List.{map-append}
+use Rattle.std.proofs.Common.{◌≡◌, ℕ, ◌+◌, ◌<◌, ◌≤◌, true, false, List, [], ◌∷◌, ◌++◌, length, ℤ, Ok, Result, sym, refl, ap, ◌∙◌, inl, inr, arith}
+use Rattle.std.proofs.lemmas.Bool.{le-leb, not_from_false, not-true, or_parts, or_from}
 use Rattle.std.proofs.lemmas.Bool.Decides.{nat_tests}
 use Rattle.design.specs.declared.price.Price.{Price}
 use Rattle.design.specs.declared.fault.JudgeFault.{JudgeFault}
@@ -12,7 +11,7 @@ use Rattle.design.specs.Plan.{rules_kept, prices_kept}
 use Rattle.design.specs.Fault.{refused_or}
 use Rattle.design.proofs.Truth.{never, tell, both, left_of, right_of}
 use Rattle.design.proofs.OfPrices.{same_true, same_from, priced_more}
-use Rattle.judge.specs.Calls.{rule_fault, price_fault, outside}
+use Rattle.judge.specs.Calls.{rule_fault, price_fault}
 use Rattle.propagation.specs.declared.rule.Rule.{Rule}
 use Rattle.propagation.specs.Held.{marks_of, rules_of}
 use Rattle.propagation.proofs.Making.{rules_next}

@@ -1,5 +1,5 @@
 -- The laws that the search uses, from the scales of a judge.
-use Rattle.std.proofs.Common.{◌≡◌, ℕ}
+use Rattle.std.proofs.Common.{ℕ}
 use Rattle.scales.proofs.ByPlaces.{PlaceLaws}
 use Rattle.design.specs.Plan.{Scales}
 use Rattle.plain.specs.declared.state.Plain.{Plain}

@@ -1,30 +1,27 @@
 -- The steps of the search.
-use Rattle.std.proofs.Common.{◌≡◌, ℕ, ◌+◌, ◌-◌, ◌%◌, ◌^◌, ◌<◌, ◌≤◌, Bool, true, false, cond, ◌⊎◌, List, [], ◌∷◌, ℤ, pos, negsuc, Some, None, Option, sym, refl, ap, ◌∙◌, subst, inl, inr, arith}
+use Rattle.std.proofs.Common.{◌≡◌, ℕ, ◌-◌, ◌^◌, ◌<◌, ◌≤◌, true, false, cond, ◌⊎◌, List, [], ◌∷◌, ℤ, pos, negsuc, Some, None, Option, ap, ◌∙◌, inl, inr, arith}
 use lib.Bits.{bit_and, bit_or}
 use Rattle.std.proofs.lemmas.Bool.{or_left, or_right, not-true, not_from_false, cases_lt}
-use Rattle.std.proofs.lemmas.Nat.{pow_pos, pow_below}
-use Rattle.scales.specs.Laws.{Places}
+use Rattle.std.proofs.lemmas.Nat.{pow_below}
 use Rattle.scales.proofs.ByPlaces.{PlaceLaws}
 use Rattle.bits.specs.Bit.{bit}
 use Rattle.bits.proofs.OfBits.{bit_of_or, power_same, low_inside, inside_ones}
-use Rattle.design.specs.Mark.{named, all_are_named, holds, bit_of}
-use Rattle.design.specs.Cost.{cost}
-use Rattle.design.specs.Plan.{Scales}
+use Rattle.design.specs.Mark.{named, all_are_named, holds}
 use Rattle.design.specs.declared.price.Price.{Price}
-use Rattle.design.proofs.Truth.{never, tell, both, left_of, right_of}
+use Rattle.design.proofs.Truth.{tell, left_of, right_of}
 use Rattle.design.proofs.OfMarks.{bit_below}
 use Rattle.design.proofs.Totals.{Wider, total_wider}
 use Rattle.propagation.specs.Masks.{up_bit, down_bit, ups_from, downs_from, ups_of, downs_of}
 use Rattle.propagation.specs.Held.{Met}
-use Rattle.propagation.specs.Narrowing.{Agrees, Narrow, Nowhere, AllAlive, Halves}
-use Rattle.propagation.specs.Easing.{NoDearer, Moved, Eased}
+use Rattle.propagation.specs.Narrowing.{Agrees, Narrow, Nowhere, Halves}
+use Rattle.propagation.specs.Easing.{NoDearer, Eased}
 use Rattle.propagation.specs.declared.partial.Partial.{Partial}
 use Rattle.propagation.proofs.Hits.{all_met}
 use Rattle.propagation.proofs.Narrows.{narrow_more}
 use Rattle.pricing.specs.Tables.{marks_in}
-use Rattle.pricing.specs.Bounds.{sure, sure_total, Affordable}
+use Rattle.pricing.specs.Bounds.{sure}
 use Rattle.pricing.proofs.Costing.{wider_named, holds_sure}
-use Rattle.plain.specs.Search.{Query, Fitting, Still, Settled, Found}
+use Rattle.plain.specs.Search.{Query, Fitting, Still, Found}
 
 -- what the search knows of a query: its scales' laws, and that its marks name choices
 pub record Sound (q : Query) : Type 0 where

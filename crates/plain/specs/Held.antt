@@ -1,5 +1,5 @@
 -- What a plain judge means: what it holds, with the tops of its scales as limits.
-use Rattle.std.specs.Prelude.{ℕ, vec_items}
+use Rattle.std.specs.Prelude.{vec_items}
 use Rattle.scales.specs.Laws.{Places}
 use Rattle.design.specs.Plan.{Scales, Meaning}
 use Rattle.propagation.specs.Held.{rules_of}

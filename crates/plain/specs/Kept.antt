@@ -1,6 +1,5 @@
 -- The table that a plain judge keeps.
-use Rattle.std.proofs.Common.{arith, sym, ap}
-use Rattle.std.specs.Prelude.{◌≡◌, ℕ}
+use Rattle.std.proofs.Common.{arith}
 use Rattle.design.specs.Plan.{Scales, Table}
 use Rattle.plain.specs.Held.{meaning_of}
 use Rattle.plain.specs.declared.state.Plain.{Plain}

@@ -1,11 +1,10 @@
 -- What the search answers for a partial setting.
-use Rattle.std.specs.Prelude.{◌≡◌, ℕ, ◌≤◌, List, Some, None, Option}
-use Rattle.scales.specs.Laws.{Places}
+use Rattle.std.specs.Prelude.{ℕ, ◌≤◌, List, Some, None, Option}
 use Rattle.design.specs.Plan.{Scales}
 use Rattle.design.specs.Cost.{cost}
 use Rattle.design.specs.declared.price.Price.{Price}
 use Rattle.propagation.specs.Held.{Met}
-use Rattle.propagation.specs.Narrowing.{Agrees, Narrow, Nowhere, AllAlive}
+use Rattle.propagation.specs.Narrowing.{Narrow, Nowhere, AllAlive}
 use Rattle.propagation.specs.declared.rule.Rule.{Rule}
 use Rattle.propagation.specs.declared.partial.Partial.{Partial}
 use Rattle.pricing.specs.Bounds.{sure_total}

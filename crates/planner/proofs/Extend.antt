@@ -1,18 +1,18 @@
 -- A call by its state before and after, and what that says of every run.
-use Rattle.std.proofs.Common.{◌≡◌, ℕ, zero, suc, ◌+◌, ◌<◌, ◌≤◌, Bool, true, false, cond, List, [], ◌∷◌, ◌++◌, length, get_or, ℤ, Some, None, Ok, Err, Result, sym, refl, ap, ◌∙◌, subst, arith}
+use Rattle.std.proofs.Common.{◌≡◌, ℕ, zero, suc, ◌+◌, ◌<◌, ◌≤◌, Bool, true, false, List, [], ◌∷◌, ◌++◌, length, get_or, Some, None, Ok, Err, Result, sym, refl, ap, ◌∙◌, subst, arith}
 use Rattle.scales.proofs.ByPlaces.{PlaceLaws}
 use Rattle.design.specs.declared.fault.JudgeFault.{JudgeFault}
 use Rattle.design.specs.Mark.{holds}
-use Rattle.design.specs.Plan.{Scales, Meaning, Plan, cost_a, cost_b}
+use Rattle.design.specs.Plan.{Scales, Meaning, Plan, cost_b}
 use Rattle.design.proofs.Totals.{total_under}
 use Rattle.judge.specs.Calls.{Entered}
 use Rattle.planner.specs.declared.entry.Entry.{Entry}
 use Rattle.planner.specs.declared.entry.PlannerFault.{PlannerFault}
-use Rattle.planner.specs.declared.entry.PlannerFault.TheVariants.{ListingOpen, NoEntry, Judge}
+use Rattle.planner.specs.declared.entry.PlannerFault.TheVariants.{ListingOpen, NoEntry}
 use Rattle.planner.specs.Order.{last_b}
 use Rattle.planner.specs.Points.{Listing}
 use Rattle.planner.specs.Search.{Least}
-use Rattle.planner.specs.Runs.{State, Event, Reply, stepped, restarted, ruled, read_at, read_reply, after, entered, entry_reply, state_of, state_at, Answered, Lawful, Extends, raised}
+use Rattle.planner.specs.Runs.{State, Event, Reply, stepped, read_at, read_reply, after, entered, entry_reply, state_of, state_at, Answered, Lawful, Extends, raised}
 use Rattle.published.specs.Reading.{ReadsAs}
 use Rattle.planner.proofs.Fronts.{all_listed}
 use Rattle.planner.proofs.Lists.{Small, all_covered, new_uncovered, listing_more}

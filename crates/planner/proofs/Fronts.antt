@@ -1,14 +1,14 @@
 -- A list that covers every plan is the Pareto front.
-use Rattle.std.proofs.Common.{◌≡◌, ℕ, ◌<◌, ◌≤◌, Bool, true, false, ◌&&◌, ◌||◌, leb, ◌⊎◌, List, [], ◌∷◌, sym, refl, ap, ◌∙◌, subst, inl, inr, arith}
+use Rattle.std.proofs.Common.{◌≡◌, ℕ, ◌<◌, ◌≤◌, true, ◌&&◌, leb, ◌⊎◌, List, [], ◌∷◌, sym, ap, ◌∙◌, subst, inl, inr, arith}
 use Rattle.std.proofs.lemmas.Bool.{cases_lt, or_cases, and_parts, leb-true}
 use Rattle.design.specs.Plan.{Scales, Meaning, Plan, Beats, point, cost_a, cost_b}
 use Rattle.design.proofs.Truth.{never}
-use Rattle.published.specs.Literature.{Assignment, ParetoOptimal, Dominates}
+use Rattle.published.specs.Literature.{Assignment, ParetoOptimal}
 use Rattle.published.specs.Reading.{instance_of, assignment_of, image, ReadsAs}
 use Rattle.planner.specs.declared.entry.Entry.{Entry}
 use Rattle.planner.specs.Order.{All, covered}
 use Rattle.planner.specs.Points.{Listed, Listing}
-use Rattle.planner.specs.Front.{Lists, Optimal, Front, AllListed}
+use Rattle.planner.specs.Front.{Lists, Optimal, AllListed}
 
 module _ (s : Scales) (m : Meaning) (r : ReadsAs s m) where
   optimal_of : (e : Entry) → Listed s m e → Optimal s m e

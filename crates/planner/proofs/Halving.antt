@@ -1,5 +1,5 @@
 -- One seek of a search for the next point.
-use Rattle.std.proofs.Common.{◌≡◌, ℕ, ◌+◌, ◌-◌, ◌*◌, ◌%◌, ◌^◌, ◌<◌, ◌≤◌, ◌⊎◌, List, [], ◌∷◌, length, get_or, sym, refl, ap, ◌∙◌, subst, inl, inr, mod-eq_of_lt, sub-one, arith}
+use Rattle.std.proofs.Common.{◌≡◌, ℕ, ◌+◌, ◌-◌, ◌%◌, ◌^◌, ◌<◌, ◌≤◌, List, [], ◌∷◌, length, get_or, sym, refl, ap, ◌∙◌, subst, inl, inr, mod-eq_of_lt, sub-one, arith}
 use Rattle.std.proofs.lemmas.Bool.{cases_lt}
 use Rattle.scales.proofs.ByPlaces.{PlaceLaws}
 use Rattle.design.specs.Mark.{holds}

@@ -1,17 +1,16 @@
 -- Calls as events, and runs of turns.
-use Rattle.std.proofs.Common.{◌≡◌, ℕ, zero, suc, ◌+◌, ◌<◌, List, [], ◌∷◌, ◌++◌, map, length, get_or, take, set, ℤ, Some, None, Ok, Err, Option, Result, sym, refl, ap, ◌∙◌, subst, arith}
+use Rattle.std.proofs.Common.{◌≡◌, ℕ, zero, suc, ◌+◌, ◌<◌, List, [], ◌∷◌, ◌++◌, length, get_or, take, set, ℤ, Some, None, Ok, Err, sym, ap, subst, arith}
 use Rattle.std.proofs.lemmas.List.{take_more_set}
 use Rattle.design.specs.Plan.{Scales, Meaning}
 use Rattle.planner.specs.declared.entry.Answer.TheVariants.{Point, Ended}
-use Rattle.planner.specs.declared.entry.Entry.{Entry}
 use Rattle.planner.specs.declared.call.RuleMarks.{RuleMarks}
 use Rattle.planner.specs.declared.call.Call.{Call}
-use Rattle.planner.specs.declared.call.Call.TheVariants.{Rule, PriceA, PriceB, Step, Restart, Read}
+use Rattle.planner.specs.declared.call.Call.TheVariants.{Rule, PriceA, PriceB, Step}
 use Rattle.planner.specs.declared.call.Outcome.{Outcome}
 use Rattle.planner.specs.declared.call.Outcome.TheVariants as out
 use Rattle.planner.specs.declared.call.Turn.{Turn}
-use Rattle.planner.specs.Runs.{State, Event, Reply, ruled, priced_a, priced_b, stepped, start, state_of, Lawful, Extends, Steps}
-use Rattle.planner.specs.Calls.{marks_entered, entered_outcome, Is, is_rule, is_no_rule, is_price_a, is_no_price_a, is_price_b, is_no_price_b, is_point, is_ended, Goes, Told, told_none, told_more, Whole, calls_of}
+use Rattle.planner.specs.Runs.{State, Reply, ruled, priced_a, priced_b, stepped, start, Extends, Steps}
+use Rattle.planner.specs.Calls.{marks_entered, entered_outcome, Is, is_rule, is_no_rule, is_price_a, is_no_price_a, is_price_b, is_no_price_b, is_point, is_ended, Goes, told_none, told_more, Whole, calls_of}
 
 pub goes_at : (s : Scales) (x y : State) (c d : Call) (o p : Outcome) → c ≡ d → o ≡ p → Goes s x d p y → Goes s x c o y
 goes_at s x y c d o p q r t = subst (λ (k : Call). Goes s x k o y) (sym q) (subst (λ (k : Outcome). Goes s x d k y) (sym r) t)

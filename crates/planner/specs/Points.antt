@@ -1,5 +1,5 @@
 -- What holds of a list of points, with the plans of a meaning.
-use Rattle.std.specs.Prelude.{◌≡◌, ℕ, ◌<◌, ◌≤◌, true, List}
+use Rattle.std.specs.Prelude.{◌≡◌, ℕ, ◌<◌, true, List}
 use Rattle.design.specs.Plan.{Scales, Meaning, Plan, Beats, point, cost_a, cost_b}
 use Rattle.planner.specs.declared.entry.Entry.{Entry}
 use Rattle.planner.specs.Order.{Ordered, past_a, covered, All}

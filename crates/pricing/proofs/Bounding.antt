@@ -1,5 +1,5 @@
 -- What a bound excludes, and what a plan costs at least.
-use Rattle.std.proofs.Common.{◌≡◌, ℕ, zero, suc, ◌+◌, ◌-◌, ◌^◌, ◌<◌, ◌≤◌, max, Bool, true, false, cond, not, ◌&&◌, ltb, ◌⊎◌, List, [], ◌∷◌, length, get_or, ℤ, pos, negsuc, sym, refl, ap, ◌∙◌, subst, inl, inr, arith}
+use Rattle.std.proofs.Common.{◌≡◌, ℕ, ◌+◌, ◌-◌, ◌^◌, ◌<◌, ◌≤◌, Bool, true, false, cond, not, ◌&&◌, ◌⊎◌, List, [], ◌∷◌, get_or, ℤ, pos, negsuc, sym, refl, ap, ◌∙◌, subst, inl, inr, arith}
 use lib.Bits.{bit_and, bit_or, bit_xor}
 use Rattle.std.proofs.lemmas.Bool.{or_left, or_right, not-true, not_from_false, cases_lt}
 use Rattle.scales.specs.Laws.{Places}
@@ -7,18 +7,18 @@ use Rattle.scales.proofs.ByPlaces.{PlaceLaws}
 use Rattle.bits.specs.Bit.{bit}
 use Rattle.bits.proofs.OfBits.{bit_of_and, bit_of_or, bit_of_xor, either_one, power_only, zero_bit, inside_ones}
 use Rattle.design.specs.Mark.{named, all_are_named, holds, bit_of, same_mark}
-use Rattle.design.specs.Cost.{total, cost}
+use Rattle.design.specs.Cost.{total}
 use Rattle.design.specs.declared.price.Price.{Price}
 use Rattle.design.proofs.Truth.{never, tell, both, left_of, right_of}
 use Rattle.design.proofs.OfMarks.{bit_below}
 use Rattle.design.proofs.OfPrices.{same_true}
-use Rattle.design.proofs.Totals.{Wider, Offered, total_wider, total_insert}
+use Rattle.design.proofs.Totals.{Wider, Offered, total_insert}
 use Rattle.propagation.specs.Masks.{up_bit, down_bit}
 use Rattle.propagation.specs.Narrowing.{Agrees, Hit, Narrow}
 use Rattle.propagation.specs.declared.partial.Partial.{Partial}
 use Rattle.propagation.proofs.Narrows.{apart, taken_in, left_in}
-use Rattle.pricing.specs.Tables.{marks_in, price_at, take_mark, leave_mark, Tabled}
-use Rattle.pricing.specs.Bounds.{sure, sure_total, Affordable, AtMost, Cheap}
+use Rattle.pricing.specs.Tables.{marks_in, price_at, take_mark, leave_mark}
+use Rattle.pricing.specs.Bounds.{sure, sure_total, Affordable, Cheap}
 use Rattle.pricing.proofs.Costing.{wider_named, sure_holds}
 
 -- a setting of which the mark is false keeps where the mark's value is dropped

@@ -1,15 +1,15 @@
 -- Costs of partial and of whole settings.
-use Rattle.std.proofs.Common.{◌≡◌, ℕ, zero, suc, ◌+◌, ◌-◌, ◌^◌, ◌<◌, ◌≤◌, Bool, true, false, cond, not, ◌&&◌, ◌⊎◌, List, [], ◌∷◌, ◌++◌, length, get_or, ℤ, pos, negsuc, sym, refl, ap, ◌∙◌, subst, inl, inr, arith}
+use Rattle.std.proofs.Common.{◌≡◌, ℕ, zero, suc, ◌-◌, ◌^◌, ◌<◌, Bool, true, false, cond, not, ◌⊎◌, List, [], ◌∷◌, length, get_or, ℤ, pos, negsuc, sym, refl, ap, ◌∙◌, inl, inr, arith}
 use lib.Bits.{bit_and, bit_xor}
-use Rattle.std.proofs.lemmas.Bool.{not-true, not_from_false}
+use Rattle.std.proofs.lemmas.Bool.{not-true}
 use Rattle.scales.specs.Laws.{Places, Laws}
 use Rattle.scales.proofs.ByPlaces.{PlaceLaws}
 use Rattle.bits.specs.Bit.{bit}
-use Rattle.bits.proofs.OfBits.{bit_of_and, bit_of_xor, either_one, inside_ones}
-use Rattle.design.specs.Mark.{named, all_are_named, holds, bit_of}
-use Rattle.design.specs.Cost.{with_price, total, cost}
+use Rattle.bits.proofs.OfBits.{bit_of_xor, either_one, inside_ones}
+use Rattle.design.specs.Mark.{named, all_are_named, holds}
+use Rattle.design.specs.Cost.{with_price, cost}
 use Rattle.design.specs.declared.price.Price.{Price}
-use Rattle.design.proofs.Truth.{never, tell, both, left_of, right_of}
+use Rattle.design.proofs.Truth.{never, tell, left_of, right_of}
 use Rattle.design.proofs.OfMarks.{bit_below}
 use Rattle.design.proofs.Totals.{Wider, total_wider}
 use Rattle.propagation.specs.declared.partial.Partial.{Partial}

@@ -1,6 +1,6 @@
 -- Choices that need no trial.
-use Rattle.std.proofs.Common.{◌≡◌, ℕ, zero, suc, ◌+◌, ◌-◌, ◌^◌, ◌<◌, ◌≤◌, Bool, true, false, cond, not, ◌&&◌, ◌||◌, ◌⊎◌, List, [], ◌∷◌, ◌++◌, length, get_or, take, sym, refl, ap, ◌∙◌, subst, inl, inr, arith}
-use lib.Bits.{bit_and, bit_or, bit_xor, xor_lt, and_le_l, and_le_r}
+use Rattle.std.proofs.Common.{◌≡◌, ℕ, ◌+◌, ◌-◌, ◌^◌, ◌<◌, ◌≤◌, Bool, true, false, cond, not, ◌&&◌, ◌||◌, ◌⊎◌, List, [], ◌∷◌, ◌++◌, length, get_or, take, sym, refl, ap, ◌∙◌, subst, inl, inr, arith}
+use lib.Bits.{bit_and, bit_or, bit_xor, xor_lt, and_le_l}
 use Rattle.std.proofs.lemmas.Nat.{leading_top, or_lt}
 use Rattle.std.proofs.lemmas.List.{take_more}
 use Rattle.std.proofs.lemmas.Bool.{or_cases, or_left, or_right, or_parts, not-true, not_from_false}
@@ -10,9 +10,9 @@ use Rattle.design.specs.Rule.{meets_all}
 use Rattle.design.proofs.Truth.{never, tell, both, left_of, right_of}
 use Rattle.propagation.specs.declared.rule.Rule.{Rule}
 use Rattle.propagation.specs.declared.partial.Partial.{Partial}
-use Rattle.propagation.specs.Held.{marks_of, rules_of, Met}
+use Rattle.propagation.specs.Held.{rules_of, Met}
 use Rattle.propagation.specs.Narrowing.{Agrees, Hit, SureMark, SurelyMet}
-use Rattle.propagation.specs.Easing.{Inside, Asked, NoDearer, Moved, Eased}
+use Rattle.propagation.specs.Easing.{Inside, Asked, NoDearer, Eased}
 use Rattle.propagation.proofs.Narrows.{taken_in, left_in}
 use Rattle.propagation.proofs.Hits.{rule_hit, hit_rule}
 

@@ -1,5 +1,5 @@
 -- The two halves of a trial.
-use Rattle.std.proofs.Common.{◌≡◌, ℕ, ◌+◌, ◌<◌, ◌≤◌, true, false, ◌⊎◌, inl, inr, arith}
+use Rattle.std.proofs.Common.{◌≡◌, ℕ, ◌<◌, true, false, ◌⊎◌, inl, inr, arith}
 use Rattle.bits.specs.Bit.{bit}
 use Rattle.bits.proofs.OfBits.{Dropped}
 use Rattle.design.proofs.Truth.{tell}

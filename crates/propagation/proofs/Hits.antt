@@ -1,15 +1,15 @@
-use Rattle.std.proofs.Common.{◌≡◌, ℕ, zero, suc, ◌+◌, ◌-◌, ◌*◌, ◌/◌, ◌%◌, ◌^◌, ◌<◌, ◌≤◌, Bool, true, false, cond, not, ◌&&◌, ◌||◌, eqb, ltb, leb, ◌⊎◌, List, [], ◌∷◌, ◌++◌, map, length, get_or, take, ℤ, pos, negsuc, sym, refl, ap, ◌∙◌, subst, inl, inr, arith, ltb-true, leb-true}
-use lib.Bits.{bit_and, bit_or, and_le_l, and_le_r}
+use Rattle.std.proofs.Common.{◌≡◌, ℕ, zero, suc, ◌+◌, ◌-◌, ◌^◌, ◌<◌, Bool, true, false, cond, not, ◌||◌, ltb, ◌⊎◌, List, [], ◌∷◌, ◌++◌, length, get_or, take, ℤ, pos, negsuc, sym, refl, ap, ◌∙◌, subst, inl, inr, arith, ltb-true, leb-true}
+use lib.Bits.{bit_and, bit_or, and_le_r}
 use borrow.Author.Tests.{not-true}
-use Rattle.std.proofs.lemmas.Bool.{or_cases, or_left, or_right, not_from_false}
+use Rattle.std.proofs.lemmas.Bool.{or_cases, or_left, or_right}
 use Rattle.std.proofs.lemmas.List.{take_more}
-use Rattle.bits.specs.Bit.{bit, Single}
+use Rattle.bits.specs.Bit.{bit}
 use Rattle.bits.proofs.OfBits.{bit_of_and, bit_of_or, power_same, power_only, zero_bit, no_bits}
 use Rattle.propagation.specs.declared.rule.Rule.{Rule}
 use Rattle.design.specs.Mark.{named, all_are_named, holds}
 use Rattle.design.specs.Rule.{meets, meets_all}
 use Rattle.propagation.specs.Masks.{up_bit, down_bit, ups_from, downs_from, ups_of, downs_of}
-use Rattle.propagation.specs.Narrowing.{Agrees, Hit, Alive, Narrow, Nowhere, AllAlive}
+use Rattle.propagation.specs.Narrowing.{Hit, Alive, AllAlive}
 use Rattle.propagation.specs.Held.{Met}
 use Rattle.propagation.specs.Held.{marks_of, rules_of}
 use Rattle.design.proofs.Truth.{never, tell, both, left_of, right_of}

@@ -1,10 +1,7 @@
-use Rattle.std.proofs.Common.{◌≡◌, ℕ, zero, suc, ◌+◌, ◌-◌, ◌<◌, ◌≤◌, Bool, true, false, ◌&&◌, ltb, leb, List, [], ◌∷◌, ◌++◌, map, length, get_or, take, ℤ, pos, negsuc, Option, sym, refl, ap, ◌∙◌, subst, arith, ltb-true, lt-ltb, le-leb, leb-true}
+use Rattle.std.proofs.Common.{◌≡◌, ℕ, ◌+◌, ◌<◌, List, [], ◌∷◌, ◌++◌, length, get_or, take, ℤ, pos, sym, refl, ap, ◌∙◌}
 use lib.Bits.{bit_or}
-use Rattle.std.proofs.lemmas.List.{take_more, nil_from_length, map-append, take_all}
-use Rattle.std.proofs.lemmas.Slice.{first_rest}
-use Rattle.std.specs.List.{between}
+use Rattle.std.proofs.lemmas.List.{take_more, map-append}
 use Rattle.propagation.specs.declared.rule.Rule.{Rule}
-use Rattle.design.specs.Mark.{named, all_are_named}
 use Rattle.propagation.specs.Masks.{up_bit, down_bit, ups_from, downs_from, ups_of, downs_of}
 use Rattle.propagation.specs.Held.{marks_of, rules_of}
 

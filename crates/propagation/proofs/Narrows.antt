@@ -1,12 +1,9 @@
-use Rattle.std.proofs.Common.{◌≡◌, ℕ, zero, suc, ◌+◌, ◌-◌, ◌*◌, ◌/◌, ◌%◌, ◌^◌, ◌<◌, ◌≤◌, Bool, true, false, cond, not, ◌&&◌, ◌||◌, eqb, ltb, leb, ◌⊎◌, List, [], ◌∷◌, ◌++◌, map, ℤ, pos, negsuc, sym, refl, ap, ◌∙◌, subst, inl, inr, arith}
-use lib.Bits.{bit_and, bit_or, and_le_l, and_le_r}
+use Rattle.std.proofs.Common.{◌≡◌, ℕ, ◌^◌, ◌<◌, Bool, true, false, cond, not, ◌&&◌, ◌⊎◌, sym, ap, ◌∙◌, subst, inl, inr, arith}
+use lib.Bits.{bit_and}
 use Rattle.bits.specs.Bit.{bit}
-use Rattle.design.proofs.Truth.{never, tell, both, left_of, right_of}
-use Rattle.bits.proofs.OfBits.{bit_of_and, bit_of_or, power_only, zero_bit, Dropped}
-use Rattle.design.specs.Mark.{named, all_are_named, holds}
-use Rattle.design.specs.Rule.{meets, meets_all}
-use Rattle.propagation.specs.Masks.{up_bit, down_bit, ups_from, downs_from, ups_of, downs_of}
-use Rattle.propagation.specs.Narrowing.{Agrees, Hit, Alive, Narrow, Nowhere}
+use Rattle.design.proofs.Truth.{never, tell, both}
+use Rattle.bits.proofs.OfBits.{bit_of_and, power_only, zero_bit, Dropped}
+use Rattle.propagation.specs.Narrowing.{Agrees, Hit, Narrow, Nowhere}
 
 pub taken_in : {up down w k : ℕ} → Agrees up down w → k < 64 → bit w k ≡ true → bit up k ≡ true
 taken_in {up} {down} {w} {k} a h e = subst (λ (x : Bool). cond x (bit up k) (bit down k) ≡ true) e (a.kept k h)

@@ -1,6 +1,6 @@
 -- Partial settings: `up` has the choices that may still be taken, `down` those that may still be
 -- left, so that a choice in both is open.
-use Rattle.std.specs.Prelude.{◌≡◌, ℕ, ◌+◌, ◌^◌, ◌<◌, ◌≤◌, Bool, true, false, cond, ◌⊎◌, List, [], ◌∷◌, Some, None, Option, ◌≢◌, bit_and}
+use Rattle.std.specs.Prelude.{◌≡◌, ℕ, ◌+◌, ◌^◌, ◌<◌, ◌≤◌, true, false, cond, ◌⊎◌, List, [], ◌∷◌, Some, None, Option, ◌≢◌, bit_and}
 use Rattle.bits.specs.Bit.{bit}
 use Rattle.propagation.specs.declared.rule.Rule.{Rule}
 use Rattle.propagation.specs.declared.partial.Partial.{Partial}

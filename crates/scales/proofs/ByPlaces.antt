@@ -1,5 +1,5 @@
 -- A scale's laws, by places: what all code above uses.
-use Rattle.std.proofs.Common.{◌≡◌, ℕ, ◌≤◌, min, sym, refl, ap, ◌∙◌, arith}
+use Rattle.std.proofs.Common.{◌≡◌, ℕ, ◌≤◌, sym, ap, ◌∙◌, arith}
 use Rattle.scales.specs.Laws.{Places, Laws}
 
 pub record PlaceLaws (s : Places) : Type 0 where

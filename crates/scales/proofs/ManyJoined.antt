@@ -1,9 +1,9 @@
 -- A join of many values does not depend on order or grouping, and never falls below a part.
-use Rattle.std.proofs.Common.{◌≡◌, ℕ, zero, suc, ◌+◌, ◌<◌, ◌≤◌, List, [], ◌∷◌, ◌++◌, length, get_or, take, sym, refl, ap, ◌∙◌, subst, arith}
+use Rattle.std.proofs.Common.{◌≡◌, ℕ, zero, suc, ◌+◌, ◌<◌, ◌≤◌, List, [], ◌∷◌, ◌++◌, length, get_or, take, sym, refl, ap, ◌∙◌, arith}
 use Rattle.std.proofs.lemmas.List.{take_more}
 use Rattle.scales.specs.Laws.{Places, Laws}
 use Rattle.scales.specs.Many.{joined_all, Reordered, same, swapped, behind, further, JoinedMany}
-use Rattle.scales.proofs.ByPlaces.{place_below, place_joined, place_laws, PlaceLaws}
+use Rattle.scales.proofs.ByPlaces.{place_below, place_joined, place_laws}
 
 module _ {V : Type 0} (s : Places) (place : V → ℕ) (at : ℕ → V) (joined : V → V → V) (l : Laws s place at joined) where
   -- the first value can be joined last

@@ -1,5 +1,5 @@
 -- What a solver's calls answer, and what they leave.
-use Rattle.std.specs.Prelude.{◌≡◌, ℕ, ◌+◌, ◌-◌, ◌*◌, ◌≤◌, Bool, true, false, cond, not, ◌||◌, List, [], ◌∷◌, length, ℤ, pos, Ok, Err, Option, Result, nat_lt}
+use Rattle.std.specs.Prelude.{◌≡◌, ℕ, ◌+◌, ◌*◌, Bool, true, false, not, ◌||◌, List, [], ◌∷◌, length, ℤ, pos, Ok, Err, Option, Result, nat_lt}
 use Rattle.design.specs.Mark.{named, all_are_named}
 use Rattle.design.specs.Rule.{rule_units, units_used}
 use Rattle.design.specs.Fault.{first_of, refused_or}

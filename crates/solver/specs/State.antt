@@ -1,5 +1,5 @@
 -- What a solver means.
-use Rattle.std.specs.Prelude.{◌≡◌, ℕ, ◌≤◌, Bool, true, false, List, [], ◌∷◌, ◌++◌, length, replicate, ℤ}
+use Rattle.std.specs.Prelude.{◌≡◌, ℕ, ◌≤◌, Bool, true, false, List, [], ◌++◌, length, replicate, ℤ}
 use Rattle.design.specs.Rule.{units_used}
 use Rattle.solver.specs.Setting.{setting, meets_all, all_true, clauses_named}
 

@@ -1,6 +1,6 @@
 -- Clauses in a store: reading them back, one more at the end, and the next from a place on.
-use Rattle.std.proofs.Common.{◌≡◌, ℕ, zero, suc, ◌+◌, ◌-◌, ◌*◌, ◌<◌, ◌≤◌, Bool, true, false, ◌&&◌, List, [], ◌∷◌, ◌++◌, map, length, get_or, take, drop, ℤ, pos, nat_abs, sym, refl, ap, ◌∙◌, append_assoc, append-nil, add-one, arith, length-append}
-use Rattle.std.proofs.lemmas.List.{take_at, drop_at, length-take, length-take-le, length-drop, get_or-drop, get_or-take, drop-drop, take-take, drop_more, drop_all, drop-take}
+use Rattle.std.proofs.Common.{◌≡◌, ℕ, zero, suc, ◌+◌, ◌-◌, ◌<◌, ◌≤◌, true, List, [], ◌∷◌, ◌++◌, length, get_or, take, drop, ℤ, pos, nat_abs, sym, refl, ap, ◌∙◌, append_assoc, append-nil, arith, length-append}
+use Rattle.std.proofs.lemmas.List.{take_at, drop_at, length-take, length-take-le, length-drop, get_or-take, drop-drop, take-take, drop_more, drop_all, drop-take}
 use Rattle.std.proofs.lemmas.Bool.{and_parts, and_from}
 use Rattle.design.specs.Mark.{all_are_named}
 use Rattle.solver.specs.Setting.{clauses_named}

@@ -1,6 +1,6 @@
 -- A list with another written over it.
-use Rattle.std.proofs.Common.{◌≡◌, ℕ, zero, suc, ◌+◌, ◌-◌, ◌<◌, ◌≤◌, List, [], ◌∷◌, ◌++◌, length, get_or, take, drop, set, replicate, ℤ, pos, sym, refl, ap, ◌∙◌, append_assoc, append-nil, add-one, arith, length-append}
-use Rattle.std.proofs.lemmas.List.{take_rest, drop-drop, drop_all, length-drop, take_at, drop_at, length-take-le, take-take, set_at, drop_more, take_more, get_or-drop, get_or-append_right, take-append-le, length_push, length-replicate, replicate_more, take-append-drop}
+use Rattle.std.proofs.Common.{◌≡◌, ℕ, ◌+◌, ◌-◌, ◌<◌, ◌≤◌, List, [], ◌∷◌, ◌++◌, length, get_or, take, drop, set, replicate, ℤ, pos, sym, refl, ap, ◌∙◌, append_assoc, arith, length-append}
+use Rattle.std.proofs.lemmas.List.{drop-drop, length-drop, take_at, drop_at, length-take-le, take-take, set_at, drop_more, take_more, get_or-drop, take-append-le, length_push, length-replicate, replicate_more, take-append-drop}
 use Rattle.store.specs.Parts.{over, part}
 use Rattle.store.specs.Long.{part_long}
 

@@ -1,7 +1,7 @@
 -- Parts of a list that are written over.
-use Rattle.std.proofs.Common.{◌≡◌, ℕ, zero, suc, ◌+◌, ◌-◌, ◌<◌, ◌≤◌, List, [], ◌∷◌, ◌++◌, length, get_or, take, drop, set, ℤ, pos, sym, refl, ap, ◌∙◌, append_assoc, append-nil, add-one, arith, length-append}
+use Rattle.std.proofs.Common.{◌≡◌, ℕ, suc, ◌+◌, ◌-◌, ◌<◌, ◌≤◌, List, [], ◌∷◌, ◌++◌, length, take, drop, set, ℤ, pos, ap, ◌∙◌, append-nil, arith}
 use borrow.Rule.Slice.PartMut.{put_mid}
-use Rattle.std.proofs.lemmas.List.{take_rest, drop-drop, drop_all, length-drop, take_at, length-take-le}
+use Rattle.std.proofs.lemmas.List.{take_rest, drop-drop, drop_all, length-drop}
 use Rattle.store.specs.Parts.{over}
 
 -- after a call that was lent &mut s[used..] and wrote over its front

@@ -1,15 +1,15 @@
 -- A sweep under way: what is behind it, and what is still to visit.
-use Rattle.std.proofs.Common.{◌≡◌, ℕ, ◌+◌, ◌<◌, ◌≤◌, Bool, true, false, ◌&&◌, ◌⊎◌, List, [], ◌∷◌, length, get_or, take, drop, ℤ, pos, nat_abs, Some, None, Ok, Err, Option, sym, refl, ap, ◌∙◌, subst, inl, inr, arith}
+use Rattle.std.proofs.Common.{◌≡◌, ℕ, ◌+◌, ◌<◌, ◌≤◌, Bool, true, List, [], ◌∷◌, get_or, take, drop, ℤ, pos, nat_abs, Some, None, Ok, Err, Option, sym, refl, ap, ◌∙◌, subst, inl, inr, arith}
 use Rattle.std.proofs.lemmas.Bool.{and_parts, and_from}
 use Rattle.design.specs.Mark.{all_are_named}
 use Rattle.solver.specs.Setting.{setting, meets, meets_all, clauses_named}
 use Rattle.store.specs.Parts.{part, Left}
-use Rattle.store.proofs.Clauses.{Next, next, left_all, left_none}
-use Rattle.values.specs.Partial.{Agrees, setting_of, Opened}
+use Rattle.store.proofs.Clauses.{next, left_all, left_none}
+use Rattle.values.specs.Partial.{setting_of, Opened}
 use Rattle.sweeping.specs.declared.layout.Layout.{Layout}
 use Rattle.sweeping.specs.declared.layout.Sweep.{Sweep}
-use Rattle.sweeping.specs.Trail.{values_in, clauses_at, Meets, Ready, Reached, reopened}
-use Rattle.sweeping.specs.Sweeps.{clause_at, MeetsOne, Everywhere, Nowhere, NotedOne, Noted, Visited, Swept, Settled}
+use Rattle.sweeping.specs.Trail.{values_in, clauses_at, Meets, Ready, Reached}
+use Rattle.sweeping.specs.Sweeps.{clause_at, MeetsOne, Nowhere, NotedOne, Noted, Visited, Swept, Settled}
 use Rattle.sweeping.proofs.Pieces.{front_less}
 use Rattle.sweeping.proofs.Undoing.{back_all}
 use Rattle.sweeping.proofs.Reaching.{none_reached, weaker, then_reached, ready_after, clauses_stay}

@@ -1,11 +1,11 @@
 -- Steps of settling: none, one mark, and one after the other.
-use Rattle.std.proofs.Common.{◌≡◌, ℕ, zero, suc, ◌+◌, ◌-◌, ◌<◌, ◌≤◌, Bool, true, false, List, [], ◌∷◌, ◌++◌, length, get_or, take, drop, set, ℤ, pos, sym, refl, ap, ◌∙◌, subst, arith, length-set}
+use Rattle.std.proofs.Common.{◌≡◌, ℕ, ◌+◌, ◌-◌, ◌<◌, ◌≤◌, Bool, true, List, [], ◌∷◌, ◌++◌, length, get_or, take, set, ℤ, pos, sym, refl, ap, ◌∙◌, subst, arith, length-set}
 use Rattle.std.proofs.lemmas.List.{take-set-le, get_or-set_same, get_or-set_other}
 use Rattle.design.specs.Mark.{named, all_are_named, bit_of}
 use Rattle.design.proofs.OfMarks.{bit_below}
 use Rattle.solver.specs.Setting.{setting, truth, clauses_named}
 use Rattle.store.specs.Coding.{encode_all}
-use Rattle.store.specs.Parts.{part, clauses_of}
+use Rattle.store.specs.Parts.{part}
 use Rattle.store.specs.Long.{part_long}
 use Rattle.store.proofs.Over.{part_none, part_more}
 use Rattle.store.proofs.Clauses.{same_clauses}

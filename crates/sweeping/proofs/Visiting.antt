@@ -1,5 +1,5 @@
 -- What a clause's state says of one visit.
-use Rattle.std.proofs.Common.{◌≡◌, ℕ, ◌+◌, Bool, true, false, ◌⊎◌, List, ℤ, pos, negsuc, Some, None, Option, sym, refl, ap, ◌∙◌, subst, inl, inr, arith}
+use Rattle.std.proofs.Common.{◌≡◌, ℕ, Bool, true, List, ℤ, pos, negsuc, Some, None, Option, sym, refl, ◌∙◌, subst, inl, inr}
 use Rattle.std.proofs.lemmas.Bool.{false≢true}
 use Rattle.design.specs.Mark.{all_are_named}
 use Rattle.solver.specs.Setting.{setting, truth, meets}

@@ -1,11 +1,11 @@
 -- Settings that agree with values, and what those say of marks and clauses.
-use Rattle.std.proofs.Common.{◌≡◌, ℕ, zero, suc, ◌+◌, ◌-◌, ◌<◌, ◌≤◌, Bool, true, false, not, ◌&&◌, ◌||◌, ◌⊎◌, List, [], ◌∷◌, ◌++◌, map, length, get_or, set, ℤ, pos, negsuc, sym, refl, ap, ◌∙◌, subst, inl, inr, arith, length-set}
+use Rattle.std.proofs.Common.{◌≡◌, ℕ, zero, suc, ◌-◌, ◌<◌, Bool, true, false, not, ◌||◌, ◌⊎◌, List, [], ◌∷◌, length, get_or, set, ℤ, pos, negsuc, sym, refl, ap, ◌∙◌, subst, inl, inr, arith}
 use lib.ListN.{get_or-map}
-use Rattle.std.proofs.lemmas.List.{get_or-set_same, get_or-set_other, set_past}
-use Rattle.std.proofs.lemmas.Bool.{and_parts, cases_eq, cases_lt}
+use Rattle.std.proofs.lemmas.List.{get_or-set_same, get_or-set_other}
+use Rattle.std.proofs.lemmas.Bool.{and_parts, cases_eq}
 use Rattle.design.specs.Mark.{named, all_are_named, bit_of}
 use Rattle.design.proofs.OfMarks.{bit_below}
-use Rattle.solver.specs.Setting.{setting, truth, meets, meets_all}
+use Rattle.solver.specs.Setting.{setting, truth, meets}
 use Rattle.store.specs.Parts.{is_taken}
 use Rattle.values.specs.declared.Truth.{Truth}
 use Rattle.values.specs.declared.Truth.TheVariants.{Yes, No, Open}

@@ -1,8 +1,8 @@
-use Rattle.std.proofs.Common.{◌≡◌, ◌<◌, length, get_or, pos, sym, refl, ap, ◌∙◌, subst, arith, w16, SFits, to_z, of_z, rules}
+use Rattle.std.proofs.Common.{get_or, pos, ap, ◌∙◌, arith, w16, SFits, rules}
 use Rattle.std.proofs.lemmas.Int.{to_z-of_z}
 use Rattle.design.specs.Mark.{named}
 use Rattle.design.proofs.OfMarks.{all_at}
-use Rattle.assuming.proofs.Narrowing.{Going, then_front, going_start, going_on, going_clash, going_end}
+use Rattle.assuming.proofs.Narrowing.{then_front, going_start, going_on, going_clash, going_end}
 use Rattle.assuming.proofs.assume.Goals as goal
 
 pub loop-mark-init : goal.loop-mark-init

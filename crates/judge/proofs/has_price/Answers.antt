@@ -1,4 +1,4 @@
-use Rattle.std.proofs.Common.{◌≡◌, get_or, take, ℤ, pos, sym, ap, ◌∙◌, w8, SFits, to_z, of_z, rules}
+use Rattle.std.proofs.Common.{get_or, pos, sym, ap, ◌∙◌, w8, SFits, to_z, of_z, rules}
 use Rattle.std.proofs.lemmas.Int.{to_z-of_z}
 use Rattle.std.proofs.lemmas.List.{take_all}
 use Rattle.design.specs.Cost.{priced}

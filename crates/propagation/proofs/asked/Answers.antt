@@ -1,4 +1,4 @@
-use Rattle.std.proofs.Common.{◌≡◌, ℕ, ◌+◌, List, take, sym, subst}
+use Rattle.std.proofs.Common.{ℕ, ◌+◌, List, take, sym, subst}
 use lib.Bits.{bit_or}
 use Rattle.std.proofs.lemmas.List.{take_all}
 use Rattle.propagation.specs.declared.rule.Rule.{Rule}

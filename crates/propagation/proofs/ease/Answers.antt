@@ -1,5 +1,5 @@
 use Rattle.std.proofs.Common.{arith}
-use lib.Bits.{bit_or, bit_and}
+use lib.Bits.{bit_or}
 use Rattle.propagation.proofs.Eases.{eased, or_off}
 use Rattle.propagation.proofs.ease.Goals as goal
 

@@ -1,7 +1,5 @@
-use Rattle.std.proofs.Common.{◌≡◌, Ok, Err, sym, ap, ◌∙◌, subst, arith}
 use Rattle.std.proofs.lemmas.Result.{err_from_is_err_and}
 use Rattle.sweeping.specs.Trail.{clauses_at, Meets}
-use Rattle.sweeping.specs.Sweeps.{Settled}
 use Rattle.sweeping.proofs.Reaching.{none_reached, ready_after}
 use Rattle.sweeping.proofs.Going.{swept_on, settled_ok, settled_err}
 use Rattle.sweeping.proofs.propagate.Goals as goal

@@ -1,4 +1,4 @@
-use Rattle.std.proofs.Common.{◌≡◌, ◌+◌, get_or, pos, nat_abs, sym, ap, ◌∙◌, subst, arith, w16, SFits, rules}
+use Rattle.std.proofs.Common.{◌+◌, get_or, pos, nat_abs, sym, ap, ◌∙◌, subst, w16, SFits, rules}
 use Rattle.std.proofs.lemmas.Int.{to_z-of_z}
 use Rattle.sweeping.specs.Trail.{values_in, clauses_at, Meets, Reached}
 use Rattle.sweeping.specs.Sweeps.{Nowhere}

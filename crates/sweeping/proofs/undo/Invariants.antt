@@ -1,5 +1,4 @@
-use Rattle.std.proofs.Common.{◌≡◌, ◌-◌, ◌≤◌, true, take}
-use Rattle.design.specs.Mark.{all_are_named}
+use Rattle.std.proofs.Common.{◌≡◌, ◌-◌, ◌≤◌, take}
 use Rattle.store.specs.Parts.{part}
 use Rattle.sweeping.specs.Trail.{values_in, reopened}
 use Rattle.sweeping.proofs.undo.Given as goal

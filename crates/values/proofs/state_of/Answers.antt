@@ -1,4 +1,4 @@
-use Rattle.std.proofs.Common.{◌≡◌, length, get_or, pos, sym, ap, ◌∙◌, arith, w16, SFits, rules, ltb-false, ltb-true}
+use Rattle.std.proofs.Common.{length, get_or, pos, sym, ap, ◌∙◌, arith, w16, SFits, rules, ltb-false, ltb-true}
 use Rattle.std.specs.List.{between}
 use Rattle.std.proofs.lemmas.Int.{to_z-of_z}
 use Rattle.design.specs.Mark.{named}

@@ -1,12 +1,10 @@
-use Rattle.std.proofs.Common.{◌≡◌, ℕ, ◌≤◌, List, [], ◌∷◌, ◌++◌, length, ℤ, Ok, Err, vec_items, vec_len, Result, sym, refl, ap, ◌∙◌, subst, arith}
+use Rattle.std.proofs.Common.{◌≡◌, ℕ, List, length, ℤ, vec_items, vec_len, refl, ap, ◌∙◌, arith}
 use Rattle.std.proofs.lemmas.Result.{err_from_is_err_and}
-use Rattle.design.specs.declared.fault.JudgeFault.{JudgeFault}
 use Rattle.design.specs.Fault.{refused_or}
-use Rattle.design.specs.Plan.{Meaning}
 use Rattle.design.proofs.OfMarks.{all_up}
 use Rattle.judge.specs.Calls.{rule_fault, rule_answer}
 use Rattle.propagation.proofs.Making.{rules_next}
-use Rattle.plain.specs.Held.{pair_of, meaning_of}
+use Rattle.plain.specs.Held.{pair_of}
 use Rattle.plain.proofs.Entering.{rule_passed, kept_rule, units_next, units_long}
 use Rattle.plain.proofs.PlainJudge.rule.Goals as goal
 

@@ -1,4 +1,4 @@
-use Rattle.std.proofs.Common.{◌≡◌, sym, ap, subst, arith}
+use Rattle.std.proofs.Common.{sym, ap, subst, arith}
 use Rattle.scales.proofs.ByPlaces.{PlaceLaws, place_laws}
 use Rattle.design.specs.Plan.{Scales}
 use Rattle.planner.proofs.Halving.{small_a}

@@ -1,6 +1,5 @@
-use Rattle.std.proofs.Common.{◌≡◌, ℕ, ◌+◌, ◌-◌, ◌/◌, ◌<◌, ◌≤◌, sym, refl, subst, arith}
-use Rattle.design.specs.Plan.{Meaning, Plan}
-use Rattle.planner.proofs.Halving.{found_by, found_a, none_a, found_b, none_b}
+use Rattle.std.proofs.Common.{◌+◌, ◌-◌, ◌/◌, refl, arith}
+use Rattle.planner.proofs.Halving.{found_by, found_a, none_a}
 use Rattle.planner.proofs.halve.narrow.Goals as goal
 
 pub returns-in-Some : goal.returns-in-Some

@@ -1,4 +1,4 @@
-use Rattle.std.proofs.Common.{sym, ◌∙◌, arith}
+use Rattle.std.proofs.Common.{sym, ◌∙◌}
 use Rattle.bits.proofs.OfBits.{bit_of_and}
 use Rattle.design.proofs.Truth.{left_of, right_of}
 use Rattle.propagation.proofs.Halving.{halves, turned}

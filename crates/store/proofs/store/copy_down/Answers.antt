@@ -1,4 +1,4 @@
-use Rattle.std.proofs.Common.{◌≡◌, ◌+◌, get_or, set, pos, sym, ap, ◌∙◌, arith, w16, SFits, to_z, of_z, rules}
+use Rattle.std.proofs.Common.{◌+◌, get_or, set, pos, sym, ap, ◌∙◌, arith, w16, SFits, to_z, of_z, rules}
 use Rattle.std.proofs.lemmas.Int.{to_z-of_z}
 use Rattle.store.specs.Parts.{over}
 use Rattle.store.proofs.Over.{over_none, part_none, copy_more, copy_reads}

@@ -1,4 +1,4 @@
-use Rattle.std.proofs.Common.{◌≡◌, ◌+◌, set, pos, ap, ◌∙◌, arith}
+use Rattle.std.proofs.Common.{◌+◌, set, pos, ap, ◌∙◌, arith}
 use Rattle.store.proofs.Over.{over_none, zero_more}
 use Rattle.store.proofs.store.zero.Goals as goal
 

@@ -1,4 +1,4 @@
-use Rattle.std.proofs.Common.{◌≡◌, ℕ, List, vec_items, sym, ap, ◌∙◌, subst, arith}
+use Rattle.std.proofs.Common.{◌≡◌, ℕ, List, ap, ◌∙◌, subst, arith}
 use lib.Bits.{bit_or}
 use Rattle.scales.proofs.ByPlaces.{place_laws}
 use Rattle.propagation.specs.declared.rule.Rule.{Rule}

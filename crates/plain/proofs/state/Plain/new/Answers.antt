@@ -1,4 +1,4 @@
-use Rattle.std.proofs.Common.{◌≡◌, ℕ, List, [], length, ℤ, vec_items, vec_len, vec_capacity, sym, refl, ap, ◌∙◌, arith}
+use Rattle.std.proofs.Common.{◌≡◌, List, [], length, ℤ, vec_items, vec_len, vec_capacity, ap, ◌∙◌, arith}
 use Rattle.design.specs.declared.price.Price.{Price}
 use Rattle.plain.specs.Held.{pair_of}
 use Rattle.plain.proofs.Entering.{no_units, no_rules, no_rules_of, no_prices}

@@ -1,12 +1,10 @@
-use Rattle.std.proofs.Common.{◌≡◌, ℕ, ◌≤◌, List, vec_items, sym, ap, ◌∙◌, subst, arith}
+use Rattle.std.proofs.Common.{List, sym, subst}
 use Rattle.propagation.specs.declared.rule.Rule.{Rule}
-use Rattle.propagation.specs.declared.partial.Partial.{Partial}
 use Rattle.propagation.specs.Held.{Met}
-use Rattle.propagation.specs.Narrowing.{Narrow, Swept}
 use Rattle.pricing.specs.Bounds.{Affordable}
 use Rattle.plain.specs.Held.{pair_of}
 use Rattle.plain.specs.Asked.{query}
-use Rattle.plain.specs.Search.{Query, Fitting}
+use Rattle.plain.specs.Search.{Fitting}
 use Rattle.plain.proofs.Searching.{narrow_for}
 use Rattle.plain.proofs.state.Plain.settle.Goals as goal
 

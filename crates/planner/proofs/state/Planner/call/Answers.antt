@@ -1,4 +1,4 @@
-use Rattle.std.proofs.Common.{◌≡◌, ℤ, Ok, Err, sym, refl, ap, ◌∙◌, subst, w8, SFits, rules}
+use Rattle.std.proofs.Common.{ℤ, Ok, Err, refl, subst, w8, SFits, rules}
 use Rattle.std.proofs.lemmas.Int.{to_z-of_z}
 use Rattle.planner.specs.Runs.{restarted, read_at, priced_a, priced_b, Extends, state_in}
 use Rattle.planner.specs.Calls.{is_restart, is_plan, is_no_plan}

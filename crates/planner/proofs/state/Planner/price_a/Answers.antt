@@ -1,8 +1,6 @@
-use Rattle.std.proofs.Common.{◌≡◌, ℤ, Ok, Err, vec_items, Result, sym, refl, ap, ◌∙◌, subst, w8}
+use Rattle.std.proofs.Common.{◌≡◌, ℤ, Ok, Err, vec_items, sym, refl, ap, ◌∙◌, subst, w8}
 use Rattle.std.proofs.lemmas.Result.{err_from_is_err_and}
-use Rattle.design.specs.declared.fault.JudgeFault.{JudgeFault}
-use Rattle.design.specs.Plan.{Meaning}
-use Rattle.judge.specs.Calls.{Entered, with_price_a, price_a_answer, price_of}
+use Rattle.judge.specs.Calls.{with_price_a, price_a_answer, price_of}
 use Rattle.planner.specs.declared.entry.PlannerFault.{PlannerFault}
 use Rattle.planner.specs.Runs.{Extends, Reply, priced_a, raised, state_at}
 use Rattle.planner.proofs.Extend.{extend_shut, extend_entered}

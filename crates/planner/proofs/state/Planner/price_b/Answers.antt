@@ -1,8 +1,6 @@
-use Rattle.std.proofs.Common.{◌≡◌, ℤ, Ok, Err, vec_items, Result, sym, refl, ap, ◌∙◌, subst, w8}
+use Rattle.std.proofs.Common.{◌≡◌, ℤ, Ok, Err, vec_items, sym, refl, ap, ◌∙◌, subst, w8}
 use Rattle.std.proofs.lemmas.Result.{err_from_is_err_and}
-use Rattle.design.specs.declared.fault.JudgeFault.{JudgeFault}
-use Rattle.design.specs.Plan.{Meaning}
-use Rattle.judge.specs.Calls.{Entered, with_price_b, price_b_answer, price_of}
+use Rattle.judge.specs.Calls.{with_price_b, price_b_answer, price_of}
 use Rattle.planner.specs.declared.entry.PlannerFault.{PlannerFault}
 use Rattle.planner.specs.Runs.{Extends, Reply, priced_b, raised, state_at}
 use Rattle.planner.proofs.Extend.{extend_shut, extend_entered}

@@ -1,4 +1,4 @@
-use Rattle.std.proofs.Common.{◌≡◌, ℕ, ◌+◌, ◌-◌, ◌<◌, ◌≤◌, [], ◌∷◌, ◌++◌, Some, None, vec_items, vec_len, sym, refl, ap, ◌∙◌, subst, arith, rules}
+use Rattle.std.proofs.Common.{◌≡◌, Some, None, vec_items, sym, refl, ap, ◌∙◌, subst, arith}
 use Rattle.planner.specs.Order.{last_b}
 use Rattle.scales.proofs.ByPlaces.{PlaceLaws, place_laws}
 use Rattle.design.specs.Plan.{Scales}

@@ -1,5 +1,4 @@
-use Rattle.std.proofs.Common.{◌≡◌, ℕ, ◌≤◌, vec_items, sym, ap, ◌∙◌, subst, arith}
-use lib.Bits.{bit_and, bit_or}
+use Rattle.std.proofs.Common.{ℕ, ◌≤◌, vec_items, sym, ◌∙◌, subst, arith}
 use Rattle.scales.proofs.ByPlaces.{place_laws}
 use Rattle.design.specs.Mark.{holds}
 use Rattle.design.specs.Cost.{total}

@@ -1,4 +1,4 @@
-use Rattle.std.proofs.Common.{◌≡◌, ℕ, List, [], sym, refl, ap, ◌∙◌}
+use Rattle.std.proofs.Common.{List, sym, ap, ◌∙◌}
 use Rattle.design.specs.declared.price.Price.{Price}
 use Rattle.design.specs.Mark.{all_are_named}
 use Rattle.propagation.specs.Masks.{ups_of, downs_of, ups_from, downs_from}

@@ -1,4 +1,4 @@
-use Rattle.std.proofs.Common.{◌≡◌, ℕ, ◌<◌, ◌≤◌, true, List, get_or, ℤ, pos, vec_items, sym, ap, ◌∙◌, subst, arith, w8, SFits, to_z, of_z, rules}
+use Rattle.std.proofs.Common.{◌≡◌, ℕ, ◌<◌, true, List, get_or, pos, vec_items, sym, ap, ◌∙◌, subst, arith, w8, SFits, to_z, of_z, rules}
 use Rattle.std.proofs.lemmas.Int.{to_z-of_z}
 use Rattle.scales.proofs.ByPlaces.{place_laws}
 use Rattle.design.specs.declared.price.Price.{Price}

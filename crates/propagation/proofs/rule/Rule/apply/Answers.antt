@@ -1,4 +1,4 @@
-use Rattle.std.proofs.Common.{sym, ◌∙◌, arith}
+use Rattle.std.proofs.Common.{◌∙◌, arith}
 use Rattle.propagation.proofs.Narrows.{broken, must_leave, must_take, drop_up, drop_down}
 use Rattle.bits.proofs.OfBits.{dropped}
 use Rattle.propagation.proofs.rule.Rule.apply.Goals as goal
