@@ -1,22 +1,22 @@
 -- From a search's answer to what decide leaves.
-use Rattle.std.proofs.Common.{◌≡◌, ℕ, zero, suc, ◌+◌, ◌-◌, ◌*◌, ◌<◌, ◌≤◌, Bool, true, false, List, [], ◌∷◌, map, length, take, drop, ℤ, pos, negsuc, Ok, sym, refl, ap, ◌∙◌, subst, arith}
+use Rattle.std.proofs.Common.{◌≡◌, ℕ, zero, suc, ◌+◌, ◌*◌, ◌≤◌, Bool, true, false, List, [], ◌∷◌, map, length, take, ℤ, pos, negsuc, Ok, sym, refl, ap, ◌∙◌, subst, arith}
 use lib.ListN.{length-map}
-use Rattle.solver.specs.Setting.{setting, meets_all, clauses_named}
+use Rattle.solver.specs.Setting.{clauses_named}
 use Rattle.design.specs.Mark.{all_are_named}
 use Rattle.solver.specs.State.{Solving, Admits, holding}
 use Rattle.solver.specs.Calls.{Decided}
 use Rattle.store.specs.Coding.{encode_all}
-use Rattle.store.specs.Parts.{part, over, is_taken, clauses_of, held_of, meaning_of, Stored}
+use Rattle.store.specs.Parts.{part, over, is_taken, held_of, meaning_of, Stored}
 use Rattle.store.specs.Long.{part_long}
 use Rattle.store.proofs.Over.{take_over, length_over, part_over}
 use Rattle.store.proofs.Clauses.{same_clauses}
 use Rattle.store.proofs.Answering.{same_solving}
-use Rattle.values.specs.Partial.{Agrees, setting_of, is_open, opens}
+use Rattle.values.specs.Partial.{setting_of, is_open, opens}
 use Rattle.sweeping.specs.declared.layout.Layout.{Layout}
 use Rattle.sweeping.specs.Trail.{values_in, clauses_at, Meets, Ready}
 use Rattle.sweeping.proofs.Pieces.{front_less, part_front}
 use Rattle.deciding.specs.Search.{Found, Lost}
-use Rattle.assuming.specs.Assumed.{MakesAllTrue, SameFront, Prepared}
+use Rattle.assuming.specs.Assumed.{SameFront, Prepared}
 use Rattle.deciding.specs.Concluding.{Concluded}
 
 open_le : (z : ℤ) → is_open z ≤ 1

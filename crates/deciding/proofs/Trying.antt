@@ -1,5 +1,5 @@
 -- Trials and the search about them.
-use Rattle.std.proofs.Common.{◌≡◌, ℕ, zero, suc, ◌+◌, ◌-◌, ◌*◌, ◌<◌, ◌≤◌, Bool, true, false, List, [], ◌∷◌, length, get_or, take, set, ℤ, pos, sym, refl, ap, ◌∙◌, subst, arith, length-set}
+use Rattle.std.proofs.Common.{◌≡◌, ℕ, suc, ◌+◌, ◌-◌, ◌<◌, ◌≤◌, Bool, true, false, List, length, take, set, ℤ, pos, sym, refl, ap, ◌∙◌, subst, arith, length-set}
 use Rattle.std.proofs.lemmas.List.{take-set-le, set-set}
 use Rattle.design.specs.Mark.{named, bit_of}
 use Rattle.design.proofs.OfMarks.{bit_below}
@@ -8,10 +8,10 @@ use Rattle.store.specs.Coding.{encode_all}
 use Rattle.store.specs.Parts.{part}
 use Rattle.store.specs.Long.{part_long}
 use Rattle.values.specs.Partial.{value_that_holds, value_that_fails, Agrees, setting_of, is_open, opens, Opened}
-use Rattle.values.proofs.Agreeing.{agrees_self, agrees_for, agrees_against, agrees_unset, opens_set, set_back, for_open, against_open}
+use Rattle.values.proofs.Agreeing.{agrees_self, agrees_for, agrees_against, agrees_unset, opens_set, set_back}
 use Rattle.sweeping.specs.declared.layout.Layout.{Layout}
 use Rattle.sweeping.specs.Trail.{values_in, clauses_at, reopened, Meets, Ready, Reached}
-use Rattle.sweeping.specs.Sweeps.{Everywhere, Nowhere}
+use Rattle.sweeping.specs.Sweeps.{Nowhere}
 use Rattle.sweeping.proofs.Pieces.{part_set_in, part_front, front_less}
 use Rattle.sweeping.proofs.Reaching.{clauses_stay, ready_after}
 use Rattle.deciding.specs.Search.{Found, Lost}

@@ -1,5 +1,5 @@
 -- What decide leaves of a store.
-use Rattle.std.specs.Prelude.{◌≡◌, ℕ, ◌+◌, ◌*◌, Bool, true, false, List, length, take, ℤ}
+use Rattle.std.specs.Prelude.{◌≡◌, ℕ, ◌+◌, Bool, true, false, List, length, take, ℤ}
 use Rattle.solver.specs.State.{Admits}
 use Rattle.store.specs.Parts.{meaning_of, held_of}
 

@@ -1,5 +1,4 @@
 -- What a solver over a lent store means, and what holds of it.
-use Rattle.std.specs.Prelude.{◌≡◌}
 use Rattle.std.proofs.Common.{◌∙◌, arith}
 use Rattle.std.proofs.lemmas.List.{length-map}
 use Rattle.solver.specs.State.{Solving, Kept}

@@ -1,5 +1,5 @@
 -- What a search from given values finds.
-use Rattle.std.specs.Prelude.{◌≡◌, ℕ, ◌+◌, Bool, true, false, List, length, take, ℤ}
+use Rattle.std.specs.Prelude.{◌≡◌, ℕ, Bool, true, false, List, length, take, ℤ}
 use Rattle.values.specs.Partial.{Agrees, setting_of}
 use Rattle.sweeping.specs.declared.layout.Layout.{Layout}
 use Rattle.sweeping.specs.Trail.{values_in, clauses_at, Meets}

@@ -1,5 +1,5 @@
 -- A book's design written into a solver that is large enough.
-use Rattle.std.proofs.Common.{◌≡◌, ℕ, ◌+◌, ◌-◌, ◌*◌, ◌<◌, ◌≤◌, List, [], ◌∷◌, ◌++◌, length, ℤ, vec_items, sym, refl, ap, ◌∙◌, subst, ap₂, arith}
+use Rattle.std.proofs.Common.{◌≡◌, ℕ, ◌≤◌, List, [], ◌++◌, length, sym, refl, ap, ◌∙◌, subst, ap₂, arith}
 use Rattle.scales.proofs.ByPlaces.{PlaceLaws}
 use Rattle.design.specs.Rule.{units_used}
 use Rattle.design.specs.Plan.{Scales, Meaning}
@@ -13,7 +13,6 @@ use Rattle.plain.specs.declared.state.Plain.{Plain}
 use Rattle.totalizer.specs.Clauses.{tree}
 use Rattle.totalizer.specs.Encoding.{Design, past_a, tree_a, tree_b, clauses, needed_choices}
 use Rattle.totalizer.proofs.Fits.{few_a, few_b, design_used, design_named}
-use Rattle.totalizer.proofs.Sizes.{used_append}
 use Rattle.writer.specs.Writes.{Takes, Small}
 use Rattle.finder.specs.Finding.{Large}
 use Rattle.finder.proofs.Writing.{takes_front, takes_rest, with_more}

@@ -1,12 +1,11 @@
 -- The held setting, read into a word bit by bit.
-use Rattle.std.proofs.Common.{◌≡◌, ℕ, ◌+◌, ◌-◌, ◌*◌, ◌%◌, ◌^◌, ◌<◌, ◌≤◌, Bool, true, false, cond, not, ◌&&◌, ◌||◌, eqb, ltb, leb, ◌⊎◌, List, pos, Some, None, Ok, Err, Result, sym, refl, ap, ◌∙◌, subst, inl, inr, mod-eq_of_lt, arith}
+use Rattle.std.proofs.Common.{◌≡◌, ℕ, ◌+◌, ◌-◌, ◌*◌, ◌%◌, ◌^◌, ◌<◌, ◌≤◌, Bool, true, false, cond, not, ◌||◌, eqb, ltb, leb, ◌⊎◌, List, Some, None, Ok, Result, sym, refl, ap, ◌∙◌, subst, inl, inr, mod-eq_of_lt, arith}
 use native.Mathlib.Nat.{div-eq_of_lt}
 use lib.Bits.{bit_or, or_lt}
 use lib.Pow.{pow-lt}
 use Rattle.std.proofs.lemmas.Bool.{and_from, lt-ltb, le-leb, cases_eq}
 use Rattle.bits.specs.Bit.{bit}
 use Rattle.bits.proofs.OfBits.{bit_of_or, power_same, power_other}
-use Rattle.design.specs.Mark.{named}
 use Rattle.design.specs.Fault.{refused_or}
 use Rattle.design.specs.declared.fault.SolverFault.{SolverFault}
 use Rattle.design.specs.declared.fault.SolverFault.TheVariants.{BadMark}

@@ -1,9 +1,8 @@
 -- A design written part by part: each part is taken once those before it are written.
-use Rattle.std.proofs.Common.{◌≡◌, ℕ, ◌+◌, ◌-◌, ◌*◌, ◌<◌, ◌≤◌, true, List, [], ◌∷◌, ◌++◌, length, get_or, take, drop, ℤ, sym, refl, ap, ◌∙◌, subst, ap₂, append_assoc, append-nil, arith, take-append-drop, length-take}
+use Rattle.std.proofs.Common.{◌≡◌, ℕ, ◌+◌, ◌<◌, ◌≤◌, List, [], ◌∷◌, ◌++◌, length, get_or, take, drop, ℤ, sym, refl, ap, ◌∙◌, subst, append_assoc, append-nil, arith, take-append-drop, length-take}
 use Rattle.std.proofs.lemmas.List.{take_more, map-append}
-use Rattle.design.specs.Rule.{units_used}
 use Rattle.solver.specs.Setting.{clauses_named}
-use Rattle.solver.specs.State.{Solving, cleared, with_clauses}
+use Rattle.solver.specs.State.{Solving, with_clauses}
 use Rattle.propagation.specs.Held.{marks_of, rules_of}
 use Rattle.propagation.specs.declared.rule.Rule.{Rule}
 use Rattle.propagation.proofs.Making.{rules_next}

@@ -1,5 +1,5 @@
 -- What a tree asks of its solver, and what it learns.
-use Rattle.std.specs.Prelude.{◌≡◌, ℕ, ◌^◌, ◌<◌, ◌≤◌, Bool, true, false}
+use Rattle.std.specs.Prelude.{ℕ, ◌^◌, ◌<◌, ◌≤◌, Bool, true, false}
 use Rattle.design.specs.Plan.{Scales, Meaning, Within}
 use Rattle.solver.specs.State.{Solving}
 use Rattle.totalizer.specs.Encoding.{needed_choices, needed_room, Agree}

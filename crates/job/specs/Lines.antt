@@ -1,7 +1,6 @@
 -- The text of a printed line.
 use Rattle.std.specs.Prelude.{ℕ, List, ◌++◌, Ok, Err, codes, decimal}
 use Rattle.design.specs.Fault.{layer_name}
-use Rattle.planner.specs.declared.call.Outcome.{Outcome}
 use Rattle.planner.specs.declared.call.Outcome.TheVariants as out
 use Rattle.job.specs.declared.fault.JobFault.{JobFault}
 use Rattle.job.specs.declared.fault.JobFault.TheVariants.{Planner}

@@ -1,5 +1,5 @@
 -- What a command of a job does.
-use Rattle.std.specs.Prelude.{◌≡◌, ℕ, List, [], Some, None, Ok, Err, Option, Result}
+use Rattle.std.specs.Prelude.{Some, None, Ok, Err, Option, Result}
 use Rattle.decode.specs.declared.command.Command.{Command}
 use Rattle.decode.specs.declared.command.Command.TheVariants as command
 use Rattle.planner.specs.declared.call.Call.{Call}
@@ -7,7 +7,7 @@ use Rattle.planner.specs.declared.call.Call.TheVariants as call
 use Rattle.planner.specs.declared.call.Outcome.{Outcome}
 use Rattle.planner.specs.declared.call.Outcome.TheVariants as out
 use Rattle.job.specs.declared.fault.JobFault.{JobFault}
-use Rattle.job.specs.declared.fault.JobFault.TheVariants.{Order, Planner}
+use Rattle.job.specs.declared.fault.JobFault.TheVariants.{Planner}
 
 -- the call of a planner that a command stands for; none for a set-up
 abbrev pub call_of : Command → Option Call

@@ -1,6 +1,6 @@
 -- Samples through layers: a small design under limits and with its costs exchanged, with the points
 -- that a listing of each shows.
-use Rattle.std.specs.Prelude.{◌≡◌, ℕ, List, [], ◌∷◌, ℤ, pos, negsuc, None}
+use Rattle.std.specs.Prelude.{◌≡◌, List, [], ◌∷◌, pos, None}
 use Rattle.design.specs.Plan.{Scales, Meaning}
 use Rattle.judge.specs.Calls.{price_of}
 use Rattle.layers.specs.Meanings.{lowered, swapped, swapped_scales}

@@ -1,8 +1,8 @@
 -- A list is right if a sweep over all settings says so.
-use Rattle.std.proofs.Common.{◌≡◌, ℕ, zero, suc, ◌+◌, ◌^◌, ◌<◌, ◌≤◌, Bool, true, false, not, ◌&&◌, ◌||◌, eqb, ltb, leb, ◌⊎◌, List, [], ◌∷◌, sym, refl, ap, ◌∙◌, subst, inl, inr, arith}
+use Rattle.std.proofs.Common.{◌≡◌, ℕ, zero, suc, ◌+◌, ◌^◌, ◌<◌, Bool, true, not, ◌&&◌, ◌||◌, eqb, ltb, leb, ◌⊎◌, List, [], ◌∷◌, ap, ◌∙◌, inl, inr, arith}
 use Rattle.std.proofs.lemmas.Bool.{cases_eq, or_cases, and_parts, leb-true, ltb-true, eqb-true, le-leb, not-true, and_from, both_ways}
 use Rattle.design.specs.Rule.{meets_all}
-use Rattle.design.specs.Plan.{Scales, Meaning, Plan, cost_a, cost_b}
+use Rattle.design.specs.Plan.{Scales, Meaning, cost_a, cost_b}
 use Rattle.planner.specs.declared.entry.Entry.{Entry}
 use Rattle.planner.specs.Order.{All, Ordered, covered}
 use Rattle.samples.proofs.Unique.{Shown, CoversAll}

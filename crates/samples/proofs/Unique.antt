@@ -1,11 +1,11 @@
 -- Two lists of a design that cover every plan have the same points.
-use Rattle.std.proofs.Common.{◌≡◌, ℕ, ◌+◌, ◌<◌, ◌≤◌, Bool, true, false, ◌&&◌, ◌||◌, leb, ◌⊎◌, List, [], ◌∷◌, map, sym, refl, ap, ◌∙◌, subst, inl, inr, arith}
-use Rattle.std.proofs.lemmas.Bool.{cases_lt, or_cases, and_parts, leb-true}
-use Rattle.design.specs.Plan.{Scales, Meaning, Plan, Beats, point, cost_a, cost_b}
+use Rattle.std.proofs.Common.{◌≡◌, ℕ, ◌+◌, ◌<◌, ◌≤◌, true, ◌&&◌, leb, ◌⊎◌, List, [], ◌∷◌, sym, refl, ap, ◌∙◌, subst, inl, inr, arith}
+use Rattle.std.proofs.lemmas.Bool.{or_cases, and_parts, leb-true}
+use Rattle.design.specs.Plan.{Scales, Meaning, Plan, cost_a, cost_b}
 use Rattle.design.proofs.Truth.{never}
 use Rattle.planner.specs.declared.entry.Entry.{Entry}
 use Rattle.planner.specs.Order.{All, Ordered, covered}
-use Rattle.planner.specs.Points.{Listed, Listing}
+use Rattle.planner.specs.Points.{Listed}
 use Rattle.samples.specs.Designs.{points}
 
 -- a point is one of a list's

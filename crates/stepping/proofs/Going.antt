@@ -1,10 +1,10 @@
 -- A test of the clauses under way: what is still to look at.
-use Rattle.std.proofs.Common.{◌≡◌, ℕ, ◌+◌, ◌<◌, ◌≤◌, Bool, true, false, ◌&&◌, List, [], ◌∷◌, length, get_or, ℤ, pos, nat_abs, sym, refl, ap, ◌∙◌, subst, arith}
+use Rattle.std.proofs.Common.{◌≡◌, ℕ, ◌+◌, ◌<◌, ◌≤◌, Bool, true, List, length, get_or, ℤ, pos, nat_abs, sym, ap, ◌∙◌, subst, arith}
 use Rattle.std.proofs.lemmas.Bool.{and_parts}
 use Rattle.design.specs.Mark.{all_are_named}
 use Rattle.solver.specs.Setting.{setting, meets, meets_all, clauses_named}
 use Rattle.store.specs.Parts.{part, Left}
-use Rattle.store.proofs.Clauses.{Next, next, left_all, left_none}
+use Rattle.store.proofs.Clauses.{next, left_all, left_none}
 use Rattle.values.specs.declared.State.TheVariants.{Broken}
 use Rattle.values.specs.Partial.{state_from}
 use Rattle.sweeping.specs.declared.layout.Layout.{Layout}

@@ -1,8 +1,7 @@
 -- One choice more, with the value that it has or with either.
-use Rattle.std.proofs.Common.{◌≡◌, ℕ, zero, suc, ◌+◌, ◌<◌, ◌≤◌, Bool, true, false, ◌⊎◌, List, length, get_or, take, drop, set, ℤ, pos, negsuc, sym, refl, ap, ◌∙◌, subst, inl, inr, arith}
+use Rattle.std.proofs.Common.{◌≡◌, ℕ, zero, suc, ◌+◌, ◌<◌, ◌⊎◌, List, length, get_or, drop, set, ℤ, pos, negsuc, sym, refl, ap, ◌∙◌, subst, inl, inr, arith}
 use Rattle.std.proofs.lemmas.List.{get_or-set_same, get_or-set_other, get_or-take, get_or-drop}
 use Rattle.std.proofs.lemmas.Bool.{cases_eq, lt-ltb}
-use Rattle.design.specs.Mark.{named, bit_of}
 use Rattle.store.specs.Parts.{part}
 use Rattle.store.specs.Long.{part_long}
 use Rattle.values.specs.Partial.{Agrees, setting_of, is_open, Opened}

@@ -1,14 +1,13 @@
 -- Clauses whose highest choice has a value are met or broken.
-use Rattle.std.proofs.Common.{◌≡◌, ℕ, zero, suc, ◌+◌, ◌<◌, ◌≤◌, max, Bool, true, false, ◌&&◌, ◌⊎◌, List, [], ◌∷◌, length, get_or, ℤ, pos, negsuc, sym, refl, ap, ◌∙◌, subst, inl, inr, arith}
+use Rattle.std.proofs.Common.{◌≡◌, ℕ, zero, suc, ◌+◌, ◌<◌, ◌≤◌, max, Bool, true, ◌⊎◌, List, [], ◌∷◌, length, get_or, ℤ, pos, negsuc, sym, refl, ap, ◌∙◌, inl, inr, arith}
 use Rattle.std.specs.List.{between}
 use Rattle.std.proofs.lemmas.List.{nil_from_length}
 use Rattle.std.proofs.lemmas.Slice.{first_rest}
 use Rattle.std.proofs.lemmas.Bool.{and_parts, and_from, cases_lt}
 use Rattle.design.specs.Mark.{named, all_are_named, bit_of}
 use Rattle.design.proofs.OfMarks.{bit_below}
-use Rattle.solver.specs.Setting.{setting, meets, meets_all, clauses_named}
+use Rattle.solver.specs.Setting.{meets_all, clauses_named}
 use Rattle.values.specs.declared.Truth.TheVariants.{Yes, No}
-use Rattle.values.specs.declared.State.{State}
 use Rattle.values.specs.declared.State.TheVariants.{Met, Broken}
 use Rattle.values.specs.Partial.{said, truth_in, with_open, by_truth, state_from, Agrees, is_open}
 use Rattle.sweeping.specs.Trail.{Meets}

@@ -5,7 +5,7 @@ use Rattle.values.specs.Partial.{is_open, state_from}
 use Rattle.values.specs.declared.State.TheVariants.{Broken}
 use Rattle.sweeping.specs.declared.layout.Layout.{Layout}
 use Rattle.sweeping.specs.Trail.{values_in, clauses_at, Meets}
-use Rattle.sweeping.specs.Sweeps.{clause_at, MeetsOne, Everywhere, Nowhere}
+use Rattle.sweeping.specs.Sweeps.{MeetsOne, Everywhere, Nowhere}
 
 -- the highest choice that a clause names, or 0: where choices are gone through in order, the clause
 -- is decided once this one is

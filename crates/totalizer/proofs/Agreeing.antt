@@ -1,5 +1,5 @@
 -- Settings that agree on the choices that marks name, and words as settings.
-use Rattle.std.proofs.Common.{◌≡◌, ℕ, zero, suc, ◌-◌, ◌<◌, ◌≤◌, min, Bool, true, false, cond, not, ◌&&◌, ◌||◌, List, [], ◌∷◌, length, get_or, ℤ, pos, negsuc, sym, refl, ap, ◌∙◌, ap₂, arith}
+use Rattle.std.proofs.Common.{◌≡◌, ℕ, suc, ◌-◌, ◌<◌, ◌≤◌, min, Bool, true, cond, not, ◌&&◌, ◌||◌, List, [], ◌∷◌, length, get_or, ℤ, pos, negsuc, refl, ap, ◌∙◌, ap₂, arith}
 use Rattle.std.proofs.lemmas.Bool.{and_parts}
 use Rattle.scales.specs.Laws.{Places}
 use Rattle.bits.specs.Bit.{bit}
@@ -8,7 +8,7 @@ use Rattle.design.specs.Rule.{meets as MeetsWord, meets_all as meets_all_word}
 use Rattle.design.specs.Cost.{total_from, total, cost}
 use Rattle.design.specs.declared.price.Price.{Price}
 use Rattle.solver.specs.Setting.{truth, meets, meets_all, all_true, clauses_named}
-use Rattle.totalizer.specs.Heap.{no_price, paid, Costs, MarksNamed}
+use Rattle.totalizer.specs.Heap.{no_price, Costs, MarksNamed}
 use Rattle.totalizer.proofs.Marks.{choice_low, choice_high}
 
 -- two settings with the same n choices

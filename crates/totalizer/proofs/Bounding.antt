@@ -1,5 +1,5 @@
 -- What the assumptions of one cost say: the cost is at most the bound.
-use Rattle.std.proofs.Common.{◌≡◌, ℕ, suc, ◌+◌, ◌-◌, ◌<◌, ◌≤◌, Bool, true, false, cond, not, ◌&&◌, eqb, ltb, leb, ◌⊎◌, List, [], length, get_or, ℤ, pos, neg_ℤ, sym, refl, ap, ◌∙◌, subst, inl, inr, arith}
+use Rattle.std.proofs.Common.{◌≡◌, ℕ, suc, ◌+◌, ◌-◌, ◌<◌, ◌≤◌, Bool, true, false, cond, not, ◌&&◌, eqb, ltb, leb, ◌⊎◌, List, [], length, get_or, pos, neg_ℤ, sym, refl, ap, ◌∙◌, subst, inl, inr, arith}
 use Rattle.std.proofs.lemmas.Bool.{both_ways, cases_lt, true≢false, cond-false, lt-leb, ne_eqb, eqb-false, eqb-true, and_parts, not-true}
 use Rattle.scales.specs.Laws.{Places}
 use Rattle.scales.proofs.ByPlaces.{PlaceLaws}

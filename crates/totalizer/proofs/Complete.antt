@@ -1,16 +1,15 @@
 -- A setting whose extra choices tell the nodes' costs meets the clauses.
-use Rattle.std.proofs.Common.{◌≡◌, ℕ, zero, suc, ◌+◌, ◌-◌, ◌*◌, ◌/◌, ◌%◌, ◌<◌, ◌≤◌, min, Bool, true, false, cond, not, ◌&&◌, ◌||◌, eqb, ltb, leb, ◌⊎◌, List, [], ◌∷◌, ◌++◌, length, get_or, ℤ, pos, negsuc, neg_ℤ, sym, refl, ap, ◌∙◌, subst, ap₂, inl, inr, le_trans, arith}
-use Rattle.std.proofs.lemmas.Bool.{both_ways, cases_lt, cases_eq, cases_Bool, true≢false, cond-true, cond-false, le-leb, lt-leb, leb-true, leb-false, le-ltb, lt-ltb, eq-eqb, ne_eqb, eqb-false}
+use Rattle.std.proofs.Common.{◌≡◌, ℕ, ◌+◌, ◌-◌, ◌*◌, ◌/◌, ◌%◌, ◌<◌, ◌≤◌, min, Bool, true, false, cond, eqb, leb, ◌⊎◌, List, [], length, get_or, sym, refl, ap, ◌∙◌, subst, ap₂, inl, inr, arith}
+use Rattle.std.proofs.lemmas.Bool.{cases_lt, cases_eq, le-leb, lt-leb, leb-true, leb-false, eqb-false}
 use Rattle.std.proofs.lemmas.Nat.{div-mul-add, mod-mul-add}
 use Rattle.scales.specs.Laws.{Places}
 use Rattle.scales.proofs.ByPlaces.{PlaceLaws}
 use Rattle.design.specs.declared.price.Price.{Price}
 use Rattle.solver.specs.Setting.{truth, meets_all}
-use Rattle.totalizer.specs.declared.Literal.{Literal}
-use Rattle.totalizer.specs.declared.Literal.TheVariants.{Always, Never, Mark}
-use Rattle.totalizer.specs.Heap.{no_price, paid, Costs, MarksNamed}
+use Rattle.totalizer.specs.declared.Literal.TheVariants.{Never, Mark}
+use Rattle.totalizer.specs.Heap.{no_price, Costs, MarksNamed}
 use Rattle.totalizer.specs.Clauses.{number, says, literal, joins_to, pair, at_least}
-use Rattle.totalizer.proofs.Meets.{Named, Met, joins_met, none_met}
+use Rattle.totalizer.proofs.Meets.{Met, joins_met, none_met}
 use Rattle.totalizer.proofs.Sound.{literal_none, literal_inner, literal_price, literal_named}
 
 -- the extra choices of one cost tell the nodes' costs

@@ -1,20 +1,18 @@
 -- Both directions: plans extend to settings that the solver admits, and those are plans.
-use Rattle.std.proofs.Common.{◌≡◌, ℕ, zero, suc, ◌+◌, ◌-◌, ◌*◌, ◌^◌, ◌<◌, ◌≤◌, Bool, true, false, cond, leb, List, ◌++◌, map, length, get_or, sym, refl, ap, ◌∙◌, subst, mul-le-mul_right, arith}
+use Rattle.std.proofs.Common.{◌≡◌, ℕ, zero, suc, ◌+◌, ◌-◌, ◌*◌, ◌^◌, ◌<◌, ◌≤◌, Bool, true, false, leb, List, ◌++◌, map, length, sym, ap, ◌∙◌, subst, mul-le-mul_right, arith}
 use Rattle.std.specs.List.{range_with_len}
 use Rattle.std.proofs.lemmas.List.FromFn.{length-map-range_with_len, get_or-map-range_with_len}
 use Rattle.std.proofs.lemmas.Bool.{cond-true, cond-false, le-leb, lt-leb}
 use Rattle.scales.specs.Laws.{Places}
 use Rattle.scales.proofs.ByPlaces.{PlaceLaws}
-use Rattle.bits.specs.Bit.{bit}
 use Rattle.design.specs.Mark.{holds}
 use Rattle.design.specs.Cost.{total}
-use Rattle.design.specs.Plan.{Scales, Meaning, Plan, Within, cost_a, cost_b}
+use Rattle.design.specs.Plan.{Scales, Meaning, Within, cost_a, cost_b}
 use Rattle.design.proofs.Totals.{total_under}
 use Rattle.solver.specs.Setting.{truth, setting, meets_all, all_true}
-use Rattle.solver.specs.State.{Solving, Admits}
 use Rattle.totalizer.specs.Heap.{Costs, below}
 use Rattle.totalizer.specs.Clauses.{number, assumed, at_least, extended}
-use Rattle.totalizer.specs.Encoding.{Design, past_a, tree_a, tree_b, clauses, bounds, needed_choices, Written, Agree, RootIsCost, PlansExtend, SettingsArePlans}
+use Rattle.totalizer.specs.Encoding.{Design, past_a, tree_a, tree_b, clauses, bounds, RootIsCost, PlansExtend, SettingsArePlans}
 use Rattle.totalizer.proofs.Gathers.{append_from, append_parts, every_met, every_true}
 use Rattle.totalizer.proofs.Meets.{tree_met}
 use Rattle.totalizer.proofs.Folds.{below_costs, root_cost}

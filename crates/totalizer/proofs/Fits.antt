@@ -1,13 +1,13 @@
 -- The clauses of a design fit the choices and the room that a tree needs.
-use Rattle.std.proofs.Common.{◌≡◌, ℕ, zero, suc, ◌+◌, ◌-◌, ◌*◌, ◌<◌, ◌≤◌, true, List, ◌++◌, length, ℤ, sym, ap, subst, le_trans, mul-le-mul_right, arith}
+use Rattle.std.proofs.Common.{◌≡◌, ℕ, ◌+◌, ◌-◌, ◌*◌, ◌≤◌, true, ◌++◌, length, sym, subst, le_trans, mul-le-mul_right, arith}
 use Rattle.scales.proofs.ByPlaces.{PlaceLaws}
 use Rattle.design.specs.Mark.{all_are_named}
 use Rattle.design.specs.Rule.{units_used}
 use Rattle.design.specs.Plan.{Scales, Meaning}
 use Rattle.solver.specs.Setting.{clauses_named}
 use Rattle.totalizer.specs.Heap.{MarksNamed}
-use Rattle.totalizer.specs.Clauses.{tree, assumed}
-use Rattle.totalizer.specs.Encoding.{Design, past_a, tree_a, tree_b, clauses, bounds, needed_choices, needed_room, Extra, Numbered, Fitting}
+use Rattle.totalizer.specs.Clauses.{assumed}
+use Rattle.totalizer.specs.Encoding.{Design, past_a, tree_a, tree_b, clauses, bounds, needed_choices, needed_room, Numbered, Fitting}
 use Rattle.totalizer.proofs.Gathers.{append_from, every_named, every_clause_named}
 use Rattle.totalizer.proofs.OfTable.{rules_named, marks_named, clauses_more}
 use Rattle.totalizer.proofs.Sizes.{used_append, tree_used, tree_named, assumed_named, number_injective, number_last}

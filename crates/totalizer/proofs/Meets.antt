@@ -1,12 +1,12 @@
 -- What the clauses of one cost say.
-use Rattle.std.proofs.Common.{◌≡◌, ℕ, zero, suc, ◌+◌, ◌-◌, ◌*◌, ◌<◌, ◌≤◌, Bool, true, false, cond, not, ◌&&◌, ◌||◌, eqb, ltb, leb, ◌⊎◌, List, [], ◌∷◌, ◌++◌, length, get_or, ℤ, pos, negsuc, neg_ℤ, nat_abs, sym, refl, ap, ◌∙◌, subst, ap₂, inl, inr, arith}
-use Rattle.std.proofs.lemmas.Bool.{both_ways, and_parts, and_from, cases_lt, cases_Bool, true≢false}
+use Rattle.std.proofs.Common.{◌≡◌, ℕ, zero, suc, ◌-◌, ◌<◌, ◌≤◌, Bool, true, false, not, ◌&&◌, ◌||◌, List, [], length, ℤ, pos, negsuc, neg_ℤ, nat_abs, sym, refl, subst, arith}
+use Rattle.std.proofs.lemmas.Bool.{true≢false}
 use Rattle.scales.specs.Laws.{Places}
 use Rattle.design.specs.declared.price.Price.{Price}
 use Rattle.solver.specs.Setting.{truth, meets, meets_all}
 use Rattle.totalizer.specs.declared.Literal.{Literal}
 use Rattle.totalizer.specs.declared.Literal.TheVariants.{Always, Never, Mark}
-use Rattle.totalizer.specs.Clauses.{says, possible, denial, joins_to, pair, gather, row, grid, from_last, tree}
+use Rattle.totalizer.specs.Clauses.{says, joins_to, pair, row, grid, from_last, tree}
 use Rattle.totalizer.proofs.Gathers.{gather_from, gather_parts, every_met}
 
 -- a literal that names a nat_abs

@@ -1,12 +1,12 @@
 -- What a judge's table says of its rules and prices.
-use Rattle.std.proofs.Common.{◌≡◌, ℕ, zero, suc, ◌<◌, ◌≤◌, Bool, true, false, not, ◌&&◌, leb, List, [], ◌∷◌, length, get_or, ℤ, refl, arith}
+use Rattle.std.proofs.Common.{◌≡◌, ℕ, zero, suc, ◌≤◌, true, not, ◌&&◌, leb, List, [], ◌∷◌, length, ℤ, refl, arith}
 use Rattle.std.proofs.lemmas.Bool.{and_parts, and_from}
 use Rattle.design.specs.Mark.{named, all_are_named}
 use Rattle.design.specs.Cost.{priced}
 use Rattle.design.specs.Plan.{rules_kept, prices_kept}
 use Rattle.design.specs.declared.price.Price.{Price}
 use Rattle.solver.specs.Setting.{clauses_named}
-use Rattle.totalizer.specs.Heap.{no_price, MarksNamed}
+use Rattle.totalizer.specs.Heap.{MarksNamed}
 use Rattle.totalizer.proofs.Marks.{choice_low, choice_high, named_from}
 
 pub rules_named : (n : ℕ) (rs : List (List ℤ)) → rules_kept n rs ≡ true → clauses_named n rs ≡ true

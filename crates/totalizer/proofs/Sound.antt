@@ -1,14 +1,13 @@
 -- A setting that meets the clauses has each node's literal true at the node's cost.
-use Rattle.std.proofs.Common.{◌≡◌, ℕ, zero, suc, ◌+◌, ◌-◌, ◌*◌, ◌<◌, ◌≤◌, min, Bool, true, false, cond, not, ◌&&◌, ◌||◌, eqb, ltb, leb, ◌⊎◌, List, [], ◌∷◌, ◌++◌, length, get_or, ℤ, pos, negsuc, neg_ℤ, nat_abs, sym, refl, ap, ◌∙◌, subst, ap₂, inl, inr, arith}
-use Rattle.std.proofs.lemmas.Bool.{both_ways, cases_lt, cases_eq, cases_Bool, true≢false, cond-true, cond-false, le-leb, lt-leb, leb-true, le-ltb, lt-ltb, eq-eqb, ne_eqb}
+use Rattle.std.proofs.Common.{◌≡◌, ℕ, zero, suc, ◌+◌, ◌-◌, ◌*◌, ◌<◌, ◌≤◌, min, Bool, true, false, cond, eqb, ltb, leb, ◌⊎◌, List, [], length, get_or, pos, nat_abs, sym, refl, ap, ◌∙◌, subst, ap₂, inl, inr, arith}
+use Rattle.std.proofs.lemmas.Bool.{cases_lt, cases_eq, cond-true, cond-false, le-leb, le-ltb, lt-ltb, ne_eqb}
 use Rattle.scales.specs.Laws.{Places}
 use Rattle.scales.proofs.ByPlaces.{PlaceLaws}
 use Rattle.design.specs.declared.price.Price.{Price}
 use Rattle.solver.specs.Setting.{truth, meets_all}
-use Rattle.totalizer.specs.declared.Literal.{Literal}
 use Rattle.totalizer.specs.declared.Literal.TheVariants.{Always, Never, Mark}
-use Rattle.totalizer.specs.Heap.{no_price, paid, Costs, MarksNamed}
-use Rattle.totalizer.specs.Clauses.{number, says, literal, joins_to, pair}
+use Rattle.totalizer.specs.Heap.{no_price, Costs, MarksNamed}
+use Rattle.totalizer.specs.Clauses.{number, says, literal, pair}
 use Rattle.totalizer.proofs.Meets.{Named, Met, met_joins}
 use Rattle.totalizer.proofs.Marks.{choice_low}
 use Rattle.totalizer.proofs.Folds.{costs_within, nothing_first}

@@ -1,5 +1,5 @@
 -- What a tree needs of its solver, and the refusals of its making.
-use Rattle.std.specs.Prelude.{◌≡◌, ℕ, ◌≤◌, Bool, not, ◌&&◌, List, [], ◌∷◌, Some, None, Ok, Err, Option, Result, nat_le}
+use Rattle.std.specs.Prelude.{◌≡◌, ℕ, Bool, not, ◌&&◌, [], ◌∷◌, Some, None, Ok, Err, Option, Result, nat_le}
 use Rattle.design.specs.Plan.{Scales}
 use Rattle.design.specs.Fault.{first_of}
 use Rattle.design.specs.declared.fault.SolverFault.TheVariants.{TooSmall}

@@ -1,11 +1,10 @@
 -- A clause that a solver takes.
-use Rattle.std.proofs.Common.{◌≡◌, ℕ, ◌+◌, ◌≤◌, Bool, true, false, not, ◌&&◌, ltb, List, [], ◌∷◌, ◌++◌, length, ℤ, Some, None, Ok, Err, Option, Result, sym, refl, ap, ◌∙◌, subst, append-nil, arith}
+use Rattle.std.proofs.Common.{◌≡◌, ◌+◌, ◌≤◌, true, not, ltb, List, [], ◌∷◌, length, ℤ, None, Ok, Option, Result, ap, ◌∙◌, subst, arith}
 use Rattle.std.proofs.lemmas.Bool.{cond-false, le-ltb, and_parts}
 use Rattle.design.specs.Mark.{all_are_named}
 use Rattle.design.specs.Rule.{rule_units, units_used}
-use Rattle.design.specs.Fault.{first_of, refused_or}
+use Rattle.design.specs.Fault.{refused_or}
 use Rattle.design.specs.declared.fault.SolverFault.{SolverFault}
-use Rattle.design.specs.declared.fault.SolverFault.TheVariants.{LongClause, BadMark, Full}
 use Rattle.solver.specs.Setting.{clauses_named}
 use Rattle.solver.specs.State.{Solving, with_clauses}
 use Rattle.solver.specs.Calls.{clause_fault, clause_answer, Appended}

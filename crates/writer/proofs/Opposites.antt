@@ -1,5 +1,5 @@
 -- Marks of 16 bits and their opposites.
-use Rattle.std.proofs.Common.{◌≡◌, ℕ, zero, suc, ◌^◌, ◌<◌, ℤ, pos, negsuc, ◌-ℤ◌, neg_ℤ, nat_abs, ap, ◌∙◌, arith, w16, SFits, to_z, of_z}
+use Rattle.std.proofs.Common.{◌≡◌, zero, suc, ◌^◌, ◌<◌, ℤ, pos, negsuc, ◌-ℤ◌, neg_ℤ, nat_abs, ap, ◌∙◌, arith, w16, SFits, to_z, of_z}
 use Rattle.std.proofs.lemmas.Int.{to_z-of_z, ints}
 
 short_fits : (z : ℤ) → nat_abs z < 2 ^ 15 → SFits w16 z

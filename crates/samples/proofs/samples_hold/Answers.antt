@@ -1,14 +1,13 @@
-use Rattle.std.proofs.Common.{◌≡◌, Bool, true, ◌&&◌, List, [], ◌∷◌, sym, refl, ap, ◌∙◌, subst}
+use Rattle.std.proofs.Common.{◌≡◌, Bool, true, ◌&&◌, List, [], ◌∷◌, refl, subst}
 use Rattle.std.proofs.lemmas.Bool.{and_parts}
 use Rattle.bits.specs.Bit.{bit}
 use Rattle.design.specs.Rule.{meets, meets_all}
 use Rattle.design.specs.Cost.{total, total_from}
 use Rattle.design.specs.Plan.{Meaning, cost_a, cost_b}
-use Rattle.planner.specs.declared.entry.Entry.{Entry}
 use Rattle.planner.specs.Points.{Listing}
 use Rattle.planner.specs.Front.{AllListed}
 use Rattle.planner.specs.Runs.{state_of}
-use Rattle.samples.specs.Designs.{Sample, samples, scales, points, ListsThem, Each}
+use Rattle.samples.specs.Designs.{Sample, samples, scales, ListsThem, Each}
 use Rattle.samples.proofs.Unique.{one_list, shown_of}
 use Rattle.samples.proofs.Checked.{right, shown_by, order_by, covers_by}
 use Rattle.samples.proofs.samples_hold.Goals as goal

@@ -1,6 +1,5 @@
-use Rattle.std.proofs.Common.{◌≡◌, is_ok, Result, ap, ◌∙◌}
+use Rattle.std.proofs.Common.{is_ok, Result, ap, ◌∙◌}
 use Rattle.design.specs.declared.fault.SolverFault.{SolverFault}
-use Rattle.solver.specs.Calls.{clause_answer}
 use Rattle.writer.proofs.Clause.{taken, appended}
 use Rattle.writer.proofs.append.Goals as goal
 

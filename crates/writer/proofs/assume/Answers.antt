@@ -1,4 +1,4 @@
-use Rattle.std.proofs.Common.{◌≡◌, ℕ, suc, ◌+◌, ◌<◌, length, take, ℤ, sym, refl, ap, ◌∙◌, subst, ap₂, arith, rules}
+use Rattle.std.proofs.Common.{◌≡◌, ℕ, suc, ◌+◌, take, sym, ap, ◌∙◌, subst, arith}
 use Rattle.totalizer.specs.Clauses.{literal, denial, denied}
 use Rattle.writer.specs.Writes.{Short}
 use Rattle.writer.proofs.Opposites.{turned}

@@ -1,7 +1,7 @@
 use Rattle.std.proofs.Common.{◌<◌, length, arith, rules}
 use Rattle.std.proofs.lemmas.Bool.Decides.{nat_tests}
 use Rattle.std.proofs.lemmas.Int.{to_z-of_z, to_z_pos}
-use Rattle.totalizer.specs.Clauses.{literal, number}
+use Rattle.totalizer.specs.Clauses.{literal}
 use Rattle.totalizer.proofs.Sizes.{number_last}
 use Rattle.writer.proofs.literal_of.Goals as goal
 

@@ -1,4 +1,4 @@
-use Rattle.std.proofs.Common.{◌≡◌, ℕ, suc, sym, refl, ap, ◌∙◌, subst, ap₂, arith}
+use Rattle.std.proofs.Common.{◌≡◌, ℕ, suc, ap, ◌∙◌, arith}
 use Rattle.solver.specs.State.{with_clauses}
 use Rattle.totalizer.specs.Clauses.{row, grid, gather}
 use Rattle.writer.proofs.Parts.{takes_part, wrote_more, wrote_start}

@@ -1,7 +1,6 @@
 use Rattle.std.proofs.Common.{◌≡◌, ℕ, ◌+◌, ◌-◌, ◌*◌, ◌<◌, ◌≤◌, length, sym, ap, ◌∙◌, subst, arith}
 use Rattle.scales.proofs.ByPlaces.{place_laws}
 use Rattle.solver.specs.State.{with_clauses}
-use Rattle.totalizer.specs.Clauses.{number, pair}
 use Rattle.totalizer.proofs.Sizes.{number_last}
 use Rattle.writer.specs.Writes.{Takes}
 use Rattle.writer.proofs.Parts.{pair_nothing, pair_joins, wrote_none}

@@ -1,4 +1,4 @@
-use Rattle.std.proofs.Common.{◌≡◌, ◌≤◌}
+use Rattle.std.proofs.Common.{◌≡◌}
 use Rattle.solver.specs.State.{with_clauses}
 use Rattle.totalizer.specs.Clauses.{pair, gather}
 use Rattle.writer.proofs.write_row.Given as goal

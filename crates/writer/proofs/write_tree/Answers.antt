@@ -1,4 +1,4 @@
-use Rattle.std.proofs.Common.{◌≡◌, ℕ, suc, ◌+◌, ◌-◌, length, sym, ap, ◌∙◌, subst, arith}
+use Rattle.std.proofs.Common.{◌≡◌, ℕ, suc, ◌+◌, ◌-◌, length, ap, ◌∙◌, subst, arith}
 use Rattle.solver.specs.State.{with_clauses}
 use Rattle.totalizer.specs.Clauses.{grid, from_last, tree, gather}
 use Rattle.writer.specs.Writes.{Takes}

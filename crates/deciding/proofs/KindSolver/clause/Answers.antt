@@ -1,6 +1,5 @@
-use Rattle.std.proofs.Common.{◌≡◌, ℕ, ◌+◌, ◌≤◌, true, map, length, sym, refl, ap, ◌∙◌, arith}
+use Rattle.std.proofs.Common.{ℕ, map, sym, refl, ap, ◌∙◌, arith}
 use Rattle.std.proofs.lemmas.Result.{err_from_is_err_and}
-use Rattle.design.specs.Rule.{rule_units, units_used}
 use Rattle.solver.specs.Setting.{clauses_named}
 use Rattle.solver.specs.Calls.{clause_answer}
 use Rattle.solver.specs.Checks.{clause_check}

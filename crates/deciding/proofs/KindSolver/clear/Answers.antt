@@ -1,4 +1,4 @@
-use Rattle.std.proofs.Common.{◌≡◌, refl, ap, ◌∙◌, arith}
+use Rattle.std.proofs.Common.{refl, ap, ◌∙◌, arith}
 use Rattle.solver.specs.Setting.{clauses_named}
 use Rattle.store.specs.Coding.{encode_all}
 use Rattle.store.proofs.Clauses.{no_clauses, encode_none, named_none}

@@ -1,4 +1,4 @@
-use Rattle.std.proofs.Common.{◌≡◌, sym, refl, subst}
+use Rattle.std.proofs.Common.{sym, refl, subst}
 use Rattle.store.specs.Parts.{Stored}
 use Rattle.deciding.specs.Held.{stored_of, kind_meaning}
 use Rattle.deciding.proofs.Conclusions.{concluded_stored, decided}

@@ -1,4 +1,4 @@
-use Rattle.std.proofs.Common.{◌≡◌, ℕ, refl, ap}
+use Rattle.std.proofs.Common.{refl, ap}
 use Rattle.scales.proofs.ByPlaces.{place_laws}
 use Rattle.judge.specs.declared.sizes.Sizes.{Sizes}
 use Rattle.propagation.specs.Held.{rules_of}

@@ -1,4 +1,4 @@
-use Rattle.std.proofs.Common.{◌≡◌, ℕ, ◌-◌, ◌<◌, ◌≤◌, List, [], ◌∷◌, length, get_or, take, ℤ, pos, sym, refl, ap, ◌∙◌, subst, arith, w8, SFits, rules}
+use Rattle.std.proofs.Common.{◌≡◌, ◌≤◌, List, [], ◌∷◌, length, get_or, ℤ, pos, sym, refl, ap, ◌∙◌, subst, arith, w8, SFits, rules}
 use Rattle.solver.specs.State.{with_clauses}
 use Rattle.writer.specs.Writes.{Takes}
 use Rattle.finder.proofs.Entering.{widened, set_length, taken_all}

@@ -1,4 +1,4 @@
-use Rattle.std.proofs.Common.{List, take, ap, ◌∙◌}
+use Rattle.std.proofs.Common.{List, ap, ◌∙◌}
 use Rattle.std.proofs.lemmas.List.{take_all}
 use Rattle.solver.specs.State.{with_clauses}
 use Rattle.propagation.specs.Held.{rules_of}

@@ -1,4 +1,4 @@
-use Rattle.std.proofs.Common.{◌≡◌, take, replicate, pos, ap, arith}
+use Rattle.std.proofs.Common.{ap, arith}
 use Rattle.scales.proofs.ByPlaces.{place_laws}
 use Rattle.judge.specs.declared.sizes.Sizes.{Sizes}
 use Rattle.plain.specs.Held.{pair_of, meaning_of}

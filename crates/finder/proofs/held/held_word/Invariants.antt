@@ -1,4 +1,4 @@
-use Rattle.std.proofs.Common.{ℕ, ◌^◌, ◌<◌}
+use Rattle.std.proofs.Common.{◌^◌, ◌<◌}
 use Rattle.totalizer.specs.Encoding.{Agree}
 use Rattle.finder.proofs.held.held_word.Given as goal
 

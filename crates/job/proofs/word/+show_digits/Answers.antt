@@ -1,6 +1,5 @@
 use Rattle.std.proofs.Common.{is_ok, ap}
 use Rattle.std.proofs.Output.{has_written_append, has_written_of_eq}
-use Rattle.job.specs.Words.{hex}
 use Rattle.job.proofs.Words.{hex_more}
 use Rattle.job.proofs.word.+show_digits.Goals as goal
 

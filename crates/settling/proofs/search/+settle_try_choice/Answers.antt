@@ -1,4 +1,4 @@
-use Rattle.std.proofs.Common.{◌≡◌, suc, ◌+◌, ◌-◌, ◌<◌, ◌≤◌, true, false, length, set, sym, refl, ap, ◌∙◌, subst, arith, w16, SFits, to_z, of_z, rules}
+use Rattle.std.proofs.Common.{◌+◌, ◌-◌, ◌≤◌, set, sym, refl, ap, ◌∙◌, subst, arith, w16, SFits, to_z, of_z, rules}
 use Rattle.std.proofs.lemmas.Int.{to_z-of_z}
 use Rattle.design.specs.Mark.{bit_of, all_are_named}
 use Rattle.values.specs.Partial.{value_that_holds, value_that_fails, opens, Opened}
@@ -6,8 +6,8 @@ use Rattle.values.proofs.Agreeing.{for_open, against_open}
 use Rattle.sweeping.specs.Trail.{values_in, clauses_at, Meets}
 use Rattle.sweeping.specs.Sweeps.{Noted}
 use Rattle.sweeping.proofs.Pieces.{part_front}
-use Rattle.sweeping.proofs.Reaching.{ready_after, clauses_stay}
-use Rattle.deciding.proofs.Trying.{Tried, first_tried, next_tried, fewer, tried_ready, tried_found, both_lost, inside, all_met, reached_found, top_low, undone, lost_none}
+use Rattle.sweeping.proofs.Reaching.{ready_after}
+use Rattle.deciding.proofs.Trying.{first_tried, next_tried, fewer, tried_ready, tried_found, both_lost, all_met, reached_found, top_low, undone, lost_none}
 use Rattle.settling.proofs.search.+settle_try_choice.Goals as goal
 
 pub settle-try_choice-requires : goal.settle-try_choice-requires

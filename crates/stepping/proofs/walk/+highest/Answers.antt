@@ -1,4 +1,4 @@
-use Rattle.std.proofs.Common.{◌≡◌, ◌<◌, length, get_or, pos, sym, ap, ◌∙◌, arith, w16, SFits, rules, ltb-false, ltb-true}
+use Rattle.std.proofs.Common.{get_or, pos, ap, arith, w16, SFits, rules, ltb-false, ltb-true}
 use Rattle.std.proofs.lemmas.Int.{to_z-of_z}
 use Rattle.design.specs.Mark.{bit_of}
 use Rattle.stepping.proofs.Walking.{highest_none, highest_first}

@@ -1,4 +1,4 @@
-use Rattle.std.proofs.Common.{◌≡◌, ℕ, ◌^◌, ◌<◌, refl, ap, subst, rules}
+use Rattle.std.proofs.Common.{ℕ, ◌^◌, ◌<◌, refl, ap, subst, rules}
 use Rattle.judge.specs.declared.sizes.Sizes.{Sizes}
 use Rattle.totalizer.specs.Encoding.{Agree}
 use Rattle.tree.proofs.Tree.find.Goals as goal

@@ -1,4 +1,4 @@
-use Rattle.std.proofs.Common.{◌≡◌, length, replicate, pos, sym, ap, ◌∙◌, arith}
+use Rattle.std.proofs.Common.{length, replicate, pos, sym, ap, ◌∙◌, arith}
 use Rattle.std.proofs.lemmas.List.{length-replicate}
 use Rattle.solver.specs.Setting.{clauses_named}
 use Rattle.store.specs.Coding.{encode_all}
