@@ -4,7 +4,7 @@ use Rattle.design.specs.Mark.{named, all_are_named}
 use Rattle.design.specs.Rule.{rule_units, units_used}
 use Rattle.design.specs.Cost.{priced}
 use Rattle.design.specs.Plan.{Scales, Meaning}
-use Rattle.design.specs.Fault.{first_of, refused_or}
+use Rattle.design.specs.Fault.{first_that_holds, refused_or}
 use Rattle.design.specs.declared.price.Price.{Price}
 use Rattle.design.specs.declared.fault.JudgeFault.{JudgeFault}
 use Rattle.design.specs.declared.fault.JudgeFault.TheVariants.{Choices, Capacity, LongRule, BadMark, BadPlace, PricedTwice, Full}
@@ -15,17 +15,17 @@ outside low high n = nat_lt n low || nat_lt high n
 
 -- the refusals of a making, the first in order deciding
 abbrev pub sizes_fault : ℕ → ℕ → ℕ → Option JudgeFault
-sizes_fault n q r = first_of ((outside 1 64 n, Choices) ∷ ((outside 1 64 q || outside 1 1024 r, Capacity) ∷ []))
+sizes_fault n q r = first_that_holds ((outside 1 64 n, Choices) ∷ ((outside 1 64 q || outside 1 1024 r, Capacity) ∷ []))
 
 -- the refusals of a rule, by N, the units used, R and the rule's marks
 abbrev pub rule_fault : ℕ → ℕ → ℕ → List ℤ → Option JudgeFault
 rule_fault n used room r =
-    first_of ((nat_lt 8 (length r), LongRule) ∷ ((not (all_are_named n r), BadMark) ∷ ((nat_lt room (used + rule_units r), Full) ∷ [])))
+    first_that_holds ((nat_lt 8 (length r), LongRule) ∷ ((not (all_are_named n r), BadMark) ∷ ((nat_lt room (used + rule_units r), Full) ∷ [])))
 
 -- the refusals of a price, by N, Q, the scale's top and the prices of this cost
 abbrev pub price_fault : ℕ → ℕ → ℕ → List Price → ℤ → ℕ → Option JudgeFault
 price_fault n room top ps m p =
-    first_of ((not (named n m), BadMark) ∷ ((outside 1 top p, BadPlace) ∷ ((priced ps m, PricedTwice) ∷ ((nat_le room (length ps), Full) ∷ []))))
+    first_that_holds ((not (named n m), BadMark) ∷ ((outside 1 top p, BadPlace) ∷ ((priced ps m, PricedTwice) ∷ ((nat_le room (length ps), Full) ∷ []))))
 
 abbrev pub price_of : ℤ → ℕ → Price
 price_of m p = record { mark = m; place = p }

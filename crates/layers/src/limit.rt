@@ -1,7 +1,6 @@
 ghost use Rattle.std.specs.Prelude.{◌≡◌, min};
 ghost use Rattle.layers.specs.Meanings.{lowered};
 ghost use Rattle.layers.specs.Tables.{lowered_table};
-ghost use Rattle.std.proofs.Common.{rules};
 
 use design::JudgeFault;
 use judge::Judge;
@@ -45,7 +44,7 @@ impl<J: Judge> Judge for Limit<J> {
 
     ghost table = { λ s. lowered_table s.limit_a s.limit_b (J.Judge.meaning s.judge) (J.Judge.table s.judge) };
 
-    ghost tied = { Prim.search rules };
+    ghost tied = { J.Judge.tied };
 
     fn rule(&mut self, marks: &[i8]) -> Result<(), JudgeFault> {
         self.judge.rule(marks)

@@ -1,7 +1,7 @@
 ghost use Rattle.std.specs.Prelude.{◌≡◌};
 ghost use Rattle.layers.specs.Meanings.{swapped, swapped_scales, SwapsBack};
 ghost use Rattle.layers.specs.Tables.{swapped_table};
-ghost use Rattle.std.proofs.Common.{rules};
+ghost use Rattle.std.proofs.Common.{ap};
 
 use design::JudgeFault;
 use judge::Judge;
@@ -39,7 +39,7 @@ impl<J: Judge> Judge for Swap<J> {
 
     ghost table = { λ s. swapped_table (J.Judge.meaning s.judge) (J.Judge.table s.judge) };
 
-    ghost tied = { Prim.search rules };
+    ghost tied = { ap swapped_scales J.Judge.tied };
 
     fn rule(&mut self, marks: &[i8]) -> Result<(), JudgeFault> {
         self.judge.rule(marks)

@@ -5,11 +5,10 @@
 mod search;
 mod state;
 
-ghost use Rattle.std.specs.Prelude.{◌≡◌, ℕ, ◌≤◌};
+ghost use Rattle.std.specs.Prelude.{◌≡◌, ℕ, ◌≤◌, refl};
 ghost use Rattle.judge.specs.Calls.{no_entries};
 ghost use Rattle.plain.specs.Held.{pair_of, meaning_of};
 ghost use Rattle.plain.specs.Kept.{table_of};
-ghost use Rattle.std.proofs.Common.{rules, arith};
 
 use bits::lowest;
 use design::{JudgeFault, Price};
@@ -95,7 +94,7 @@ impl<A: Scale, B: Scale> Judge for Plain<A, B> {
 
     ghost table = { λ j. table_of (pair_of A.Scale.places B.Scale.places) j };
 
-    ghost tied = { first_of (Prim.search rules, Prim.grind (arith, Self.row.coded.inj)) };
+    ghost tied = { refl };
 
     fn rule(&mut self, marks: &[i8]) -> Result<(), JudgeFault> {
         check_rule(self.sizes, self.used, marks)?;

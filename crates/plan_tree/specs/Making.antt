@@ -3,7 +3,7 @@
 use Rattle.std.specs.Prelude.{ℕ, [], ◌∷◌, Option, nat_lt}
 use Rattle.scales.specs.Models.{hours_places, needles_places}
 use Rattle.design.specs.Plan.{Scales}
-use Rattle.design.specs.Fault.{first_of}
+use Rattle.design.specs.Fault.{first_that_holds}
 use Rattle.design.specs.declared.fault.SolverFault.TheVariants.{TooSmall}
 use Rattle.design.specs.declared.fault.JudgeFault.{JudgeFault}
 use Rattle.design.specs.declared.fault.JudgeFault.TheVariants.{Solver}
@@ -21,4 +21,4 @@ numbers_needed n q r = store_needed (needed_choices hours_and_needles n q) (need
 
 -- by the numbers that the store has, and N, Q and R
 abbrev pub set_up_fault : ℕ → ℕ → ℕ → ℕ → Option JudgeFault
-set_up_fault store n q r = else_fault (sizes_fault n q r) (first_of ((nat_lt store (numbers_needed n q r), Solver TooSmall) ∷ []))
+set_up_fault store n q r = else_fault (sizes_fault n q r) (first_that_holds ((nat_lt store (numbers_needed n q r), Solver TooSmall) ∷ []))

@@ -5,12 +5,12 @@
 // by a line: the bounds, and the word or "none".
 #![tactic(auto)]
 
-use anyhow::anyhow;
 use judge::{Judge, check_sizes};
 use plain::{Plain, Room};
 use scales::{Hours, Needles};
 use std::io;
 use std::io::Read;
+use std::process::ExitCode;
 
 // The bytes still to be read.
 #[derive(Drop)]
@@ -94,18 +94,19 @@ fn seek_all<J: Judge>(rt: &HostRuntime, input: &mut Input, judge: &mut J) -> io:
     Ok(())
 }
 
-fn main(rt: HostRuntime) -> anyhow::Result<()> {
+// A design that is refused ends with status 1 and prints nothing.
+fn main(rt: HostRuntime) -> anyhow::Result<ExitCode> {
     let mut bytes = Vec::new(rt.alloc());
     rt.stdin().read_to_end(&mut bytes)?;
     let mut input = Input { bytes, at: 0 };
     let room = Room::new(rt.alloc())?;
     let Ok(sizes) = check_sizes(input.byte(), 64, 1024) else {
-        return Err(anyhow!("N is out of range"));
+        return Ok(ExitCode::FAILURE);
     };
     let mut judge: Plain<Hours, Needles> = Plain::new(room, sizes);
     if !read_rules(&mut input, &mut judge) || !read_prices(&mut input, &mut judge) {
-        return Err(anyhow!("a rule or a price is refused"));
+        return Ok(ExitCode::FAILURE);
     }
     seek_all(&rt, &mut input, &mut judge)?;
-    Ok(())
+    Ok(ExitCode::SUCCESS)
 }

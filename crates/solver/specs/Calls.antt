@@ -2,7 +2,7 @@
 use Rattle.std.specs.Prelude.{◌≡◌, ℕ, ◌+◌, ◌*◌, Bool, true, false, not, ◌||◌, List, [], ◌∷◌, length, ℤ, pos, Ok, Err, Option, Result, nat_lt}
 use Rattle.design.specs.Mark.{named, all_are_named}
 use Rattle.design.specs.Rule.{rule_units, units_used}
-use Rattle.design.specs.Fault.{first_of, refused_or}
+use Rattle.design.specs.Fault.{first_that_holds, refused_or}
 use Rattle.design.specs.declared.fault.SolverFault.{SolverFault}
 use Rattle.design.specs.declared.fault.SolverFault.TheVariants.{Choices, TooSmall, LongClause, BadMark, Full}
 use Rattle.solver.specs.Setting.{setting}
@@ -14,12 +14,12 @@ store_needed m k = 4 * m + k
 
 -- the refusals of a making, by M, K and the store's length, the first in order deciding
 abbrev pub making_fault : ℕ → ℕ → ℕ → Option SolverFault
-making_fault m k long = first_of ((nat_lt m 1 || nat_lt 32767 m, Choices) ∷ ((nat_lt long (store_needed m k), TooSmall) ∷ []))
+making_fault m k long = first_that_holds ((nat_lt m 1 || nat_lt 32767 m, Choices) ∷ ((nat_lt long (store_needed m k), TooSmall) ∷ []))
 
 -- the refusals of a clause
 abbrev pub clause_fault : Solving → List ℤ → Option SolverFault
 clause_fault s c =
-    first_of ((nat_lt 8 (length c), LongClause) ∷ ((not (all_are_named s.choices c), BadMark) ∷ ((nat_lt s.room (units_used s.clauses + rule_units c), Full) ∷ [])))
+    first_that_holds ((nat_lt 8 (length c), LongClause) ∷ ((not (all_are_named s.choices c), BadMark) ∷ ((nat_lt s.room (units_used s.clauses + rule_units c), Full) ∷ [])))
 
 unfoldable pub clause_answer : Solving → List ℤ → Result (Unit {0}) SolverFault
 clause_answer s c = refused_or (clause_fault s c) tt
@@ -40,4 +40,4 @@ Decided meaning s ms (Err f) t = (all_are_named (meaning s).choices ms ≡ false
 
 -- whether choice n is taken in the held setting
 abbrev pub taken_answer : Solving → ℕ → Result Bool SolverFault
-taken_answer s n = refused_or (first_of ((not (named s.choices (pos n)), BadMark) ∷ [])) (setting s.held n)
+taken_answer s n = refused_or (first_that_holds ((not (named s.choices (pos n)), BadMark) ∷ [])) (setting s.held n)

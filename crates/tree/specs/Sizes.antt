@@ -1,7 +1,7 @@
 -- What a tree needs of its solver, and the refusals of its making.
 use Rattle.std.specs.Prelude.{◌≡◌, ℕ, Bool, not, ◌&&◌, [], ◌∷◌, Some, None, Ok, Err, Option, Result, nat_le}
 use Rattle.design.specs.Plan.{Scales}
-use Rattle.design.specs.Fault.{first_of}
+use Rattle.design.specs.Fault.{first_that_holds}
 use Rattle.design.specs.declared.fault.SolverFault.TheVariants.{TooSmall}
 use Rattle.design.specs.declared.fault.JudgeFault.{JudgeFault}
 use Rattle.design.specs.declared.fault.JudgeFault.TheVariants.{Solver}
@@ -21,7 +21,7 @@ else_fault None other = other
 
 -- the refusals of a making: those of every judge, and then that its solver is too small
 abbrev pub tree_fault : Scales → ℕ → ℕ → ℕ → Solving → Option JudgeFault
-tree_fault s n q r v = else_fault (sizes_fault n q r) (first_of ((not (is_large s n q r v), Solver TooSmall) ∷ []))
+tree_fault s n q r v = else_fault (sizes_fault n q r) (first_that_holds ((not (is_large s n q r v), Solver TooSmall) ∷ []))
 
 -- the sizes that the check lets pass
 abbrev pub tree_checked : Scales → ℕ → ℕ → ℕ → Solving → Result Sizes JudgeFault → Type 0

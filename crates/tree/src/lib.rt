@@ -3,7 +3,7 @@
 // place of the root above it is false. Its limits are the tops of its scales.
 #![tactic(auto)]
 
-ghost use Rattle.std.specs.Prelude.{◌≡◌, ℕ, ◌+◌, ◌-◌, ◌*◌, ◌≤◌};
+ghost use Rattle.std.specs.Prelude.{◌≡◌, ℕ, ◌+◌, ◌-◌, ◌*◌, ◌≤◌, refl};
 ghost use Rattle.design.specs.Plan.{Sought};
 ghost use Rattle.judge.specs.Calls.{no_entries};
 ghost use Rattle.solver.specs.State.{cleared};
@@ -12,7 +12,6 @@ ghost use Rattle.totalizer.specs.Encoding.{needed_choices, needed_room, ChoicesS
 ghost use Rattle.tree.specs.Sizes.{is_large, tree_checked};
 ghost use Rattle.finder.specs.Finding.{Large};
 ghost use Rattle.tree.specs.Held.{tree_meaning, tree_table};
-ghost use Rattle.std.proofs.Common.{rules};
 
 use design::{JudgeFault, SolverFault};
 use finder::{decide_within, held_word, write_book};
@@ -117,7 +116,7 @@ impl<A: Scale, B: Scale, S: Solver> Judge for Tree<A, B, S> {
 
     ghost table = { λ t. tree_table (pair_of A.Scale.places B.Scale.places) t };
 
-    ghost tied = { Prim.search rules };
+    ghost tied = { refl };
 
     fn rule(&mut self, marks: &[i8]) -> Result<(), JudgeFault> {
         self.book.rule(marks)
