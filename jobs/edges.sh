@@ -2,7 +2,7 @@
 # Jobs at the limit of length, through the program itself. It stands outside the gate, which stores one
 # input for each program. Usage: jobs/edges.sh [PROGRAM]
 set -eu
-program=${1:-target/bin/plan_plain}
+program=${1:-crates/plan_plain/out/plan_plain}
 
 # A set-up, and restarts up to a length.
 job() {
