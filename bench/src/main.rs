@@ -1,6 +1,6 @@
 //! Seeks of the plain judge beside the same search in Rust: nodes visited and time. Then whole lists:
 //! seeks and time of a step. Then the solvers beside a DPLL in Rust.
-//! Usage: bench plain SEEKS PLAN_PLAIN, or bench solvers DECIDES, or bench trees SEEKS, or bench hold FROM COUNT PLAN_PLAIN
+//! Usage: bench plain TREE_SEEKS PLAN_PLAIN, or bench solvers DECIDES, or bench trees TREE_SEEKS, or bench hold FROM COUNT PLAN_PLAIN
 //! [PLAN_TREE]; the words in capitals are paths of the programs of these names, but FROM and COUNT,
 //! which say which random jobs.
 
