@@ -1,5 +1,6 @@
 -- Calls as events, and runs of turns.
-use Rattle.std.proofs.Common.{◌≡◌, ℕ, zero, suc, ◌+◌, ◌<◌, List, [], ◌∷◌, ◌++◌, length, get_or, take, set, ℤ, Some, None, Ok, Err, sym, ap, subst, arith}
+use Rattle.std.proofs.Common.{◌≡◌, ℕ, zero, suc, ◌+◌, ◌<◌, List, [], ◌∷◌, ◌++◌, length, get_or, take, set, ℤ, Some, None, Ok, Err, sym, ap, subst, arith, w8, SFits, to_z, of_z}
+use Rattle.std.proofs.lemmas.Int.{to_z-of_z}
 use Rattle.std.proofs.lemmas.List.{take_more_set}
 use Rattle.design.specs.Plan.{Scales, Meaning}
 use Rattle.planner.specs.declared.entry.Answer.TheVariants.{Point, Ended}
@@ -26,6 +27,12 @@ goes_price_a s x y k p (Err f) e = (priced_a k p (Err f), is_no_price_a k p f, e
 pub goes_price_b : (s : Scales) (x y : State) (k : ℤ) (p : ℕ) (r : Reply) → Extends s x (priced_b k p r) y → Goes s x (PriceB k p) (entered_outcome r) y
 goes_price_b s x y k p (Ok tt) e = (priced_b k p (Ok tt), is_price_b k p, e)
 goes_price_b s x y k p (Err f) e = (priced_b k p (Err f), is_no_price_b k p f, e)
+
+-- a call that enters a price, whose mark went through a signed byte
+pub enters_price_b : (s : Scales) (x y : State) (c : Call) (o : Outcome) (k : ℤ) (p : ℕ) (r : Reply) → SFits w8 k → c ≡ PriceB k p → o ≡ entered_outcome r → Extends s x (priced_b (to_z w8 (of_z w8 k)) p r) y → Goes s x c o y
+enters_price_b s x y c o k p r f i q e =
+    goes_at s x y c (PriceB k p) o (entered_outcome r) i q
+    (goes_price_b s x y k p r (subst (λ (m : ℤ). Extends s x (priced_b m p r) y) (to_z-of_z w8 k f) e))
 
 pub goes_point : (s : Scales) (x : State) (a b : ℕ) (y : State) → Steps s x (Point a b) y → Goes s x Step (out.Point a b) y
 goes_point s x a b y (Some e, shown, law) =

@@ -1,18 +1,17 @@
-use Rattle.std.proofs.Common.{ℤ, refl, ap, ◌∙◌, subst, w8}
+use Rattle.std.proofs.Common.{ℤ, refl, subst, w8, rules}
 use Rattle.std.proofs.lemmas.Int.{to_z-of_z}
-use Rattle.judge.specs.Calls.{price_a_answer, price_b_answer, Entered, with_price_a, price_of}
+use Rattle.judge.specs.Calls.{Entered, with_price_a, price_of}
 use Rattle.layers.specs.Meanings.{swapped}
-use Rattle.layers.proofs.Through.{handed_on}
+use Rattle.layers.proofs.Through.{handed_on, answers_b}
 use Rattle.layers.proofs.swap.SwapJudge.price_b.Goals as goal
 
-pub returns : goal.returns
-unfolding price_a_answer price_b_answer
-returns g c =
+pub returns-clause-answer : goal.returns-clause-answer
+returns-clause-answer g c = search (rules, answers_b)
+
+pub returns-clause-after : goal.returns-clause-after
+returns-clause-after g c =
     let s = c.args.self.now in
     let m = g.J.Judge.meaning s.judge in
     let e = to_z-of_z w8 c.args.mark c.ranges.mark in
     let h = subst (λ (k : ℤ). Entered g.J.Judge.meaning s.judge (with_price_a m (price_of k c.args.place)) c.price_a.result c.price_a.new.self) e c.price_a.ensures.after in
-    record {
-      answer = c.price_a.ensures.answer ∙ ap (λ (k : ℤ). price_a_answer g.J.Judge.scales m k c.args.place) e;
-      after = handed_on g.J.Judge.meaning (λ k. swapped (g.J.Judge.meaning k.judge)) (swapped) (λ j. record { judge = j }) (λ j. refl) s.judge c.price_a.new.self (with_price_a m (price_of c.args.mark c.args.place)) c.price_a.result h;
-    }
+    handed_on g.J.Judge.meaning (λ k. swapped (g.J.Judge.meaning k.judge)) (swapped) (λ j. record { judge = j }) (λ j. refl) s.judge c.price_a.new.self (with_price_a m (price_of c.args.mark c.args.place)) c.price_a.result h

@@ -2,7 +2,7 @@ use Rattle.std.proofs.Common.{ℤ, Ok, Err, refl, subst, w8, SFits, rules}
 use Rattle.std.proofs.lemmas.Int.{to_z-of_z}
 use Rattle.planner.specs.Runs.{restarted, read_at, priced_a, priced_b, Extends, state_in}
 use Rattle.planner.specs.Calls.{is_restart, is_plan, is_no_plan}
-use Rattle.planner.proofs.Telling.{goes_at, goes_rule, goes_price_a, goes_price_b, goes_point, goes_ended}
+use Rattle.planner.proofs.Telling.{goes_at, goes_rule, goes_price_a, enters_price_b, goes_point, goes_ended}
 use Rattle.planner.proofs.state.Planner.call.Goals as goal
 
 pub returns-in-Rule : goal.returns-in-Rule
@@ -19,14 +19,7 @@ returns-in-PriceA g c =
     (subst (λ (k : ℤ). Extends g.J.Judge.scales x (priced_a k c.in-PriceA.place c.price_a.result) y) e c.price_a.ensures.run))
 
 pub returns-in-PriceB : goal.returns-in-PriceB
-returns-in-PriceB g c =
-    let f : SFits w8 c.in-PriceB.mark = search rules in
-    let e = to_z-of_z w8 c.in-PriceB.mark f in
-    let x = state_in g.J.Judge.meaning c.args.self.now in
-    let y = state_in g.J.Judge.meaning c.price_b.new.self in
-    goes_at _ x y _ _ _ _ c.in-PriceB.is c.outcome_of-in-PriceB.ensures
-    (goes_price_b g.J.Judge.scales x y c.in-PriceB.mark c.in-PriceB.place c.price_b.result
-    (subst (λ (k : ℤ). Extends g.J.Judge.scales x (priced_b k c.in-PriceB.place c.price_b.result) y) e c.price_b.ensures.run))
+returns-in-PriceB g c = search (rules, enters_price_b)
 
 pub returns-in-Point : goal.returns-in-Point
 returns-in-Point g c = goes_at _ _ _ _ _ _ _ c.in-Step.is refl (goes_point _ _ _ _ _ c.in-Point.ensures.run)
