@@ -2,8 +2,12 @@
 // each bit.
 #![tactic(auto)]
 
+mod members;
+
 ghost use Rattle.std.specs.Prelude.{◌≡◌, ℕ, ◌-◌, ◌^◌, ◌<◌, ◌≤◌, true, not, ◌&&◌};
 ghost use Rattle.bits.specs.Bit.{bit, Single};
+
+pub use members::{Members, members_of};
 
 // Whether bit k is set, by shift and mask.
 pub fn has_bit(word: u64, k: u32) -> bool
@@ -27,7 +31,7 @@ pub fn highest_bit(word: u64) -> u64
     requires { 0 < word }
     ensures { Single word result }
 {
-    1 << (63 - word.leading_zeros())
+    1 << highest_index(word)
 }
 
 // The word with a second word's bits dropped.

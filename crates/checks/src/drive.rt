@@ -98,7 +98,7 @@ pub fn enter_price_a<J: Judge>(
     draft: &mut Draft,
     price: Price,
 ) -> Result<bool, Mismatch> {
-    let top = J::CostA::top_place();
+    let top = J::CostA::TOP;
     let owed = price_refusal(
         draft.choices,
         draft.price_room,
@@ -118,7 +118,7 @@ pub fn enter_price_b<J: Judge>(
     draft: &mut Draft,
     price: Price,
 ) -> Result<bool, Mismatch> {
-    let top = J::CostB::top_place();
+    let top = J::CostB::TOP;
     let owed = price_refusal(
         draft.choices,
         draft.price_room,
@@ -176,7 +176,7 @@ pub fn compare_seeks<J: Judge>(
     draft: &Draft,
     sweep: &Sweep,
 ) -> Result<(), Mismatch> {
-    let top = J::CostA::top_place();
+    let top = J::CostA::TOP;
     for k in 0..top.saturating_add(3) {
         compare_row(judge, draft, sweep, bound_at(top, k))?;
     }
@@ -189,7 +189,7 @@ fn compare_row<J: Judge>(
     sweep: &Sweep,
     a: u8,
 ) -> Result<(), Mismatch> {
-    let top = J::CostB::top_place();
+    let top = J::CostB::TOP;
     for k in 0..top.saturating_add(3) {
         compare_seek(judge, draft, sweep, a, bound_at(top, k))?;
     }

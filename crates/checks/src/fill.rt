@@ -60,7 +60,7 @@ fn fill_prices<J: Judge>(
     draft: &mut Draft,
     random: &mut Random,
 ) -> Result<(), Mismatch> {
-    let (top_a, top_b) = (J::CostA::top_place(), J::CostB::top_place());
+    let (top_a, top_b) = (J::CostA::TOP, J::CostB::TOP);
     let skipped = random.below(5);
     for k in 0..8u8 {
         let (price_a, price_b) = (
@@ -167,7 +167,7 @@ fn enter_any<J: Judge>(
     heap: Global,
     random: &mut Random,
 ) -> Result<bool, Mismatch> {
-    let top = J::CostA::top_place().max(J::CostB::top_place());
+    let top = J::CostA::TOP.max(J::CostB::TOP);
     let price = Price {
         mark: draw_any_mark(random, draft),
         place: random.below(top.saturating_add(3)),

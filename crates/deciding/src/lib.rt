@@ -97,6 +97,7 @@ impl<'a, S: Search> Solver for Kind<'a, S> {
         Ok(())
     }
 
+    #[tactic(auto, using(design::proofs::OfMarks::all_by))]
     fn decide(&mut self, assumptions: &[i16]) -> Result<bool, SolverFault> {
         let choices = self.choices;
         if !all_named(assumptions, choices) {

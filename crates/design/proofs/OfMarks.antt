@@ -2,7 +2,7 @@
 use Rattle.std.proofs.Common.{◌≡◌, ℕ, zero, suc, ◌+◌, ◌<◌, ◌≤◌, true, ◌&&◌, ltb, List, [], ◌∷◌, length, get_or, ℤ, pos, negsuc, nat_abs, refl, ap, arith, w8, SFits, ltb-true, lt-ltb, le-leb, leb-true}
 use Rattle.std.proofs.lemmas.List.{nil_from_length}
 use Rattle.std.proofs.lemmas.Slice.{first_rest}
-use Rattle.std.specs.List.{between}
+use Rattle.std.specs.List.{between, list_all}
 use Rattle.design.specs.Mark.{named, all_are_named, bit_of}
 use Rattle.design.proofs.Truth.{both, left_of, right_of}
 
@@ -28,6 +28,12 @@ pub all_up : (n : ℕ) (ms : List ℤ) → n ≤ 64 → all_are_named n ms ≡ t
 unfolding all_are_named
 all_up n [] h w = refl
 all_up n (m ∷ ms) h w = both _ _ (named_up n m h (left_of _ _ w)) (all_up n ms h (right_of (named n m) _ w))
+
+-- the same, mark by mark
+pub all_by : (n : ℕ) (ms : List ℤ) → list_all (named n) ms ≡ all_are_named n ms
+unfolding all_are_named
+all_by n [] = refl
+all_by n (m ∷ ms) = ap (λ b. named n m && b) (all_by n ms)
 
 -- a mark's bit lies within the choices that it names
 pub bit_below : (n : ℕ) (m : ℤ) → named n m ≡ true → bit_of m < n

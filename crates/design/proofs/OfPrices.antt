@@ -2,6 +2,10 @@
 use Rattle.std.proofs.Common.{◌≡◌, ℕ, zero, suc, ◌+◌, ◌<◌, Bool, true, false, ◌||◌, List, [], ◌∷◌, ◌++◌, length, get_or, take, ℤ, pos, negsuc, sym, refl, ap, ◌∙◌, inl, inr, arith}
 use Rattle.std.proofs.lemmas.List.{take_more}
 use Rattle.std.proofs.lemmas.Bool.{eqb-true, eq-eqb, or_left, or_right, or_from}
+use Rattle.std.proofs.lemmas.Bool.Decides.{Decides-int_eq}
+use Rattle.std.specs.Bool.{one_answer}
+use Rattle.std.specs.List.{list_any}
+use Rattle.std.specs.Ordering.{int_eq}
 use Rattle.design.specs.Mark.{same_mark}
 use Rattle.design.specs.Cost.{priced}
 use Rattle.design.specs.declared.price.Price.{Price}
@@ -22,6 +26,15 @@ same_from x y e = ap (same_mark x) (sym e) ∙ self_same x
 
 pub same_false : (x y : ℤ) → (x ≡ y → ⊥) → same_mark x y ≡ false
 same_false x y n = elim (tell (same_mark x y)) [ inl t ↦ absurd (n (same_true x y t)) | inr f ↦ f ]
+
+-- the test as Rust writes it
+same_is : (x y : ℤ) → int_eq x y ≡ same_mark x y
+same_is x y = one_answer (int_eq x y) (same_mark x y) (Decides-int_eq x y) (same_true x y, same_from x y)
+
+pub priced_by : (ps : List Price) (z m : ℤ) → z ≡ m → list_any (λ (p : Price). int_eq p.mark z) ps ≡ priced ps m
+unfolding priced
+priced_by [] z m e = refl
+priced_by (p ∷ ps) z m e = rw (priced_by ps z m e, e) (ap (λ b. b || priced ps m) (same_is p.mark m))
 
 pub priced_none : (m : ℤ) → priced [] m ≡ false
 unfolding priced

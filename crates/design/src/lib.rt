@@ -8,5 +8,5 @@ mod mark;
 mod price;
 
 pub use fault::{JudgeFault, Layer, SolverFault};
-pub use mark::{all_named, choice_bit, is_named, is_true};
+pub use mark::{Mark, all_named, choice_bit, is_named, is_true};
 pub use price::Price;

@@ -1,5 +1,5 @@
 -- What a solver's answer under the bounds' assumptions says of the design.
-use Rattle.std.proofs.Common.{◌≡◌, ℕ, ◌-◌, Bool, true, false, List, ◌++◌, take, ℤ, is_ok, Ok, Err, Result, sym, refl, ap, ◌∙◌, subst, ap₂, arith}
+use Rattle.std.proofs.Common.{◌≡◌, ℕ, Bool, true, false, List, [], ◌++◌, ℤ, is_ok, Ok, Err, Result, sym, refl, ap, ◌∙◌, subst, ap₂}
 use Rattle.std.proofs.lemmas.Bool.{both_ways}
 use Rattle.scales.proofs.ByPlaces.{PlaceLaws}
 use Rattle.design.specs.Plan.{Scales, Meaning}
@@ -14,16 +14,12 @@ use Rattle.totalizer.proofs.Directions.{plans_extend, settings_are_plans}
 use Rattle.finder.specs.Finding.{Found}
 
 -- the marks that were written are those that the bounds assume
-pub bounds_are : (s : Scales) (m : Meaning) (x y n n' t t' : ℕ) (ps qs : List Price) → n ≡ m.choices → t ≡ s.a.top → ps ≡ m.prices_a → n' ≡ past_a s m → t' ≡ s.b.top → qs ≡ m.prices_b
-    → (i j : ℕ) (ys zs : List ℤ) → take i ys ≡ assumed t n ps x → take j zs ≡ take i ys ++ assumed t' n' qs y → take (j - 0) zs ≡ bounds s m x y
-bounds_are s m x y n n' t t' ps qs e f g e' f' g' i j ys zs p q =
-    let d : j - 0 ≡ j = omega arith in
-    ap (λ (k : ℕ). take k zs) d
-    ∙ q
-    ∙ ap (λ (l : List ℤ). l ++ assumed t' n' qs y) p
-    ∙ ap₂ (λ (k l : List ℤ). k ++ l)
-    (ap₂ (λ (k : ℕ) (l : List Price). assumed t k l x) e g ∙ ap (λ (k : ℕ). assumed k m.choices m.prices_a x) f)
-    (ap₂ (λ (k : ℕ) (l : List Price). assumed t' k l y) e' g' ∙ ap (λ (k : ℕ). assumed k (past_a s m) m.prices_b y) f')
+pub bounds_are : (s : Scales) (m : Meaning) (x y n n' : ℕ) (ps qs : List Price) → n ≡ m.choices → ps ≡ m.prices_a → n' ≡ past_a s m → qs ≡ m.prices_b
+    → (ws ys zs : List ℤ) → ws ≡ [] → ys ≡ ws ++ assumed s.a.top n ps x → zs ≡ ys ++ assumed s.b.top n' qs y → zs ≡ bounds s m x y
+bounds_are s m x y n n' ps qs e f e' f' ws ys zs o p q =
+    q ∙ ap₂ (λ (k l : List ℤ). k ++ l)
+    (p ∙ ap₂ (λ (k l : List ℤ). k ++ l) o (ap₂ (λ (k : ℕ) (l : List Price). assumed s.a.top k l x) e f))
+    (ap₂ (λ (k : ℕ) (l : List Price). assumed s.b.top k l y) e' f')
 
 module _ {S : Type 0} (meaning : S → Solving) (s : Scales) (la : PlaceLaws s.a) (lb : PlaceLaws s.b) (m : Meaning) (o : Design s m) (t₀ t₁ : S) (w : Written s m (meaning t₀)) (x y : ℕ) where
   answered : (r : Result Bool SolverFault) → Decided meaning t₀ (bounds s m x y) r t₁ → is_ok r ≡ true

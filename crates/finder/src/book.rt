@@ -6,11 +6,12 @@ ghost use Rattle.totalizer.specs.Encoding.{clauses};
 ghost use Rattle.writer.specs.Writes.{Takes};
 ghost use Rattle.finder.specs.Finding.{Large};
 
+use arrayvec::ArrayVec;
 use plain::Plain;
 use propagation::Rule;
 use scales::Scale;
 use solver::Solver;
-use writer::{append, write_tree};
+use writer::{Heap, append};
 
 // A rule as a clause.
 pub fn write_rule<S: Solver>(solver: &mut S, marks: &[i8])
@@ -18,11 +19,11 @@ pub fn write_rule<S: Solver>(solver: &mut S, marks: &[i8])
     requires takes { Takes (S.Solver.meaning solver.old) (marks.now ∷ []) }
     ensures { S.Solver.meaning solver.new ≡ with_clauses (S.Solver.meaning solver.old) (marks.now ∷ []) }
 {
-    let mut clause = [0i16; 8];
-    for (i, mark) in marks.iter().enumerate() {
-        clause[i] = *mark as i16;
+    let mut clause: ArrayVec<i16, 8> = ArrayVec::new();
+    for mark in marks {
+        clause.push(i16::from(*mark));
     }
-    append(solver, &clause[0..marks.len()]);
+    append(solver, clause.as_slice());
 }
 
 pub fn write_rules<S: Solver>(solver: &mut S, rules: &[Rule])
@@ -39,7 +40,7 @@ pub fn past_a<A: Scale, B>(book: &Plain<A, B>) -> u16
     ensures { result ≡ book.now.sizes.choices + (book.now.sizes.price_room - 1) * A.Scale.places.top }
 {
     let sizes = book.sizes();
-    sizes.choices as u16 + (sizes.price_room as u16 - 1) * A::top_place() as u16
+    u16::from(sizes.choices) + (u16::from(sizes.price_room) - 1) * u16::from(A::TOP)
 }
 
 // The whole design, written anew: its rules, then the tree of A, then that of B.
@@ -49,6 +50,8 @@ pub fn write_book<A: Scale, B: Scale, S: Solver>(solver: &mut S, book: &Plain<A,
 {
     solver.clear();
     write_rules(solver, book.rules());
-    write_tree::<A, S>(solver, book.sizes().choices as u16, book.prices_a());
-    write_tree::<B, S>(solver, past_a(book), book.prices_b());
+    let heap_a: Heap<'_, A> = Heap::new(u16::from(book.sizes().choices), book.prices_a());
+    heap_a.write(solver);
+    let heap_b: Heap<'_, B> = Heap::new(past_a(book), book.prices_b());
+    heap_b.write(solver);
 }

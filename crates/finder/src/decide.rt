@@ -5,10 +5,11 @@ ghost use Rattle.totalizer.specs.Encoding.{Written, RootIsCost, PlansExtend, Set
 ghost use Rattle.finder.specs.Finding.{Found};
 
 use crate::book::past_a;
+use arrayvec::ArrayVec;
 use plain::Plain;
 use scales::Scale;
 use solver::Solver;
-use writer::assume;
+use writer::Heap;
 
 // Whether the design that a solver holds has a plan within the bounds; a yes holds one. It rests on
 // this: each plan within the bounds extends to a setting that the solver admits, each setting that
@@ -27,17 +28,11 @@ pub fn decide_within<A: Scale, B: Scale, S: Solver>(
     ensures roots { RootIsCost A.Scale.places × RootIsCost B.Scale.places }
     ensures dropped { SettingsArePlans (pair_of A.Scale.places B.Scale.places) }
 {
-    let own = book.sizes().choices as u16;
     // the tops are at most 200, so this holds what both bounds assume
-    let mut marks = [0i16; 400];
-    let middle = assume(&mut marks, 0, own, A::top_place(), book.prices_a(), a);
-    let end = assume(
-        &mut marks,
-        middle,
-        past_a(book),
-        B::top_place(),
-        book.prices_b(),
-        b,
-    );
-    solver.decide(&marks[0..end]).unwrap()
+    let mut marks: ArrayVec<i16, 400> = ArrayVec::new();
+    let heap_a: Heap<'_, A> = Heap::new(u16::from(book.sizes().choices), book.prices_a());
+    heap_a.assume(&mut marks, a);
+    let heap_b: Heap<'_, B> = Heap::new(past_a(book), book.prices_b());
+    heap_b.assume(&mut marks, b);
+    solver.decide(marks.as_slice()).unwrap()
 }

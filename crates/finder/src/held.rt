@@ -11,7 +11,7 @@ pub fn held_word<S: Solver>(solver: &S, choices: u8) -> u64
 {
     let mut word: u64 = 0;
     for index in 0..choices {
-        if solver.taken(index as u16 + 1).unwrap() {
+        if solver.taken(u16::from(index) + 1).unwrap() {
             word |= 1 << index;
         }
     }

@@ -5,7 +5,9 @@
 mod sizes;
 
 ghost use Rattle.std.specs.Prelude.{◌≡◌, ℕ, ◌%◌, ◌^◌, ◌≤◌, length};
-ghost use Rattle.design.specs.Cost.{priced};
+ghost use Rattle.std.specs.List.{list_any};
+ghost use Rattle.std.specs.Ordering.{int_eq};
+ghost use Rattle.design.specs.declared.price.Price.{Price};
 ghost use Rattle.design.specs.Fault.{refused_or};
 ghost use Rattle.design.specs.Plan.{Scales, Meaning, Table, Sought, cost_a, cost_b};
 ghost use Rattle.judge.specs.Calls.{sizes_fault, rule_fault, price_fault, rule_answer, price_a_answer, price_b_answer, Entered, with_rule, with_price_a, with_price_b, price_of};
@@ -72,16 +74,17 @@ pub fn check_sizes(choices: u8, price_room: u8, rule_room: u16) -> Result<Sizes,
 }
 
 // Whether a rule is refused, by the sizes and the units that the rules use.
+#[tactic(auto, using(design::proofs::OfMarks::all_by))]
 pub fn check_rule(sizes: Sizes, used: u16, marks: &[i8]) -> Result<(), JudgeFault>
     ensures { result ≡ refused_or (rule_fault sizes.choices used sizes.rule_room marks.now) tt }
 {
     if marks.len() > 8 {
         return Err(JudgeFault::LongRule);
     }
-    if !all_named(marks, sizes.choices) {
+    if !all_named(marks, u16::from(sizes.choices)) {
         return Err(JudgeFault::BadMark);
     }
-    if used as usize + 1 + marks.len() > sizes.rule_room as usize {
+    if usize::from(used) + 1 + marks.len() > usize::from(sizes.rule_room) {
         return Err(JudgeFault::Full);
     }
     Ok(())
@@ -97,7 +100,7 @@ pub fn check_price(
 ) -> Result<(), JudgeFault>
     ensures { result ≡ refused_or (price_fault sizes.choices sizes.price_room top prices.now mark place) tt }
 {
-    if !is_named(mark, sizes.choices) {
+    if !is_named(mark, u16::from(sizes.choices)) {
         return Err(JudgeFault::BadMark);
     }
     if place < 1 || place > top {
@@ -106,19 +109,14 @@ pub fn check_price(
     if has_price(prices, mark) {
         return Err(JudgeFault::PricedTwice);
     }
-    if prices.len() >= sizes.price_room as usize {
+    if prices.len() >= usize::from(sizes.price_room) {
         return Err(JudgeFault::Full);
     }
     Ok(())
 }
 
 fn has_price(prices: &[Price], mark: i8) -> bool
-    ensures { result ≡ priced prices.now mark }
+    ensures { result ≡ list_any (λ (p : Price). int_eq p.mark mark) prices.now }
 {
-    for price in prices {
-        if price.mark == mark {
-            return true;
-        }
-    }
-    false
+    prices.iter().any(|price| price.mark == mark)
 }

@@ -32,9 +32,9 @@ fn drawn(random: &mut Random, heap: Global, limit_a: u8, limit_b: u8) -> Draft {
 fn draw_limit<S: Scale>(random: &mut Random) -> u8 {
     match random.below(8) {
         0 => 255,
-        1 => S::top_place(),
-        2 => S::top_place().saturating_add(1),
-        _ => random.below(S::top_place()),
+        1 => S::TOP,
+        2 => S::TOP.saturating_add(1),
+        _ => random.below(S::TOP),
     }
 }
 

@@ -18,7 +18,7 @@ pub struct Limit<J: Judge> {
 fn lower(bound: u8, limit: u8) -> u8
     ensures { result ≡ min bound limit }
 {
-    if bound <= limit { bound } else { limit }
+    bound.min(limit)
 }
 
 impl<J: Judge> Limit<J> {

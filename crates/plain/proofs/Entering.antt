@@ -1,17 +1,16 @@
 -- A rule or a price more: what a check let pass keeps the table as it has to be.
-use Rattle.std.proofs.Common.{◌≡◌, ℕ, ◌+◌, ◌<◌, ◌≤◌, true, false, List, [], ◌∷◌, ◌++◌, length, ℤ, Ok, Result, sym, refl, ap, ◌∙◌, inl, inr, arith}
-use Rattle.std.proofs.lemmas.Bool.{le-leb, not_from_false, not-true, or_parts, or_from}
+use Rattle.std.proofs.Common.{◌≡◌, ℕ, ◌+◌, ◌≤◌, true, List, [], ◌∷◌, ◌++◌, length, ℤ, Ok, Result, sym, refl, ap, ◌∙◌, arith}
+use Rattle.std.proofs.lemmas.Bool.{le-leb}
 use Rattle.std.proofs.lemmas.Bool.Decides.{nat_tests}
 use Rattle.design.specs.declared.price.Price.{Price}
 use Rattle.design.specs.declared.fault.JudgeFault.{JudgeFault}
-use Rattle.design.specs.Mark.{named, all_are_named, same_mark}
+use Rattle.design.specs.Mark.{all_are_named}
 use Rattle.design.specs.Rule.{rule_units, units_used}
-use Rattle.design.specs.Cost.{priced}
-use Rattle.design.specs.Plan.{rules_kept, prices_kept}
+use Rattle.design.specs.Plan.{rules_kept}
 use Rattle.design.specs.Fault.{refused_or}
-use Rattle.design.proofs.Truth.{never, tell, both, left_of, right_of}
-use Rattle.design.proofs.OfPrices.{same_true, same_from, priced_more}
+use Rattle.design.proofs.Truth.{both, left_of, right_of}
 use Rattle.judge.specs.Calls.{rule_fault, price_fault}
+use Rattle.judge.specs.declared.sizes.Sizes.{Sizes}
 use Rattle.propagation.specs.declared.rule.Rule.{Rule}
 use Rattle.propagation.specs.Held.{marks_of, rules_of}
 use Rattle.propagation.proofs.Making.{rules_next}
@@ -24,14 +23,6 @@ pub record RulePassed (n used room : ℕ) (r : List ℤ) : Type 0 where
 
 pub rule_passed : (n used room : ℕ) (r : List ℤ) → ◌≡◌ {A = Result (Unit {0}) JudgeFault} (Ok tt) (refused_or (rule_fault n used room r) tt) → RulePassed n used room r
 rule_passed n used room r e = record { short = grind (arith, nat_tests); names = grind (arith, nat_tests); fits = grind (arith, nat_tests) }
-
-pub record PricePassed (n room top : ℕ) (ps : List Price) (m : ℤ) (p : ℕ) : Type 0 where
-  pub names : named n m ≡ true
-  pub first : priced ps m ≡ false
-  pub fits : length ps < room
-
-pub price_passed : (n room top : ℕ) (ps : List Price) (m : ℤ) (p : ℕ) → ◌≡◌ {A = Result (Unit {0}) JudgeFault} (Ok tt) (refused_or (price_fault n room top ps m p) tt) → PricePassed n room top ps m p
-price_passed n room top ps m p e = record { names = grind (arith, nat_tests); first = grind (arith, nat_tests); fits = grind (arith, nat_tests) }
 
 rules_more : (n : ℕ) (rs : List (List ℤ)) (r : List ℤ) → rules_kept n rs ≡ true → length r ≤ 8 → all_are_named n r ≡ true → rules_kept n (rs ++ r ∷ []) ≡ true
 unfolding rules_kept
@@ -55,30 +46,6 @@ unfolding units_used rules_of
 units_long [] = omega arith
 units_long (r ∷ rs) = let h = units_long rs in omega arith
 
-turned : (x y : ℤ) → same_mark x y ≡ false → same_mark y x ≡ false
-turned x y f = elim (tell (same_mark y x)) [ inl t ↦ absurd (never (sym (same_from x y (sym (same_true y x t))) ∙ f)) | inr g ↦ g ]
-
-prices_more : (n : ℕ) (ps : List Price) (p : Price) → prices_kept n ps ≡ true → named n p.mark ≡ true → priced ps p.mark ≡ false → prices_kept n (ps ++ p ∷ []) ≡ true
-unfolding prices_kept priced
-prices_more n [] p k a f = both _ _ (both _ _ a refl) refl
-prices_more n (q ∷ ps) p k a f =
-    let o = or_parts (same_mark q.mark p.mark) (priced ps p.mark) f in
-    let h = left_of _ _ k in
-    both _ _
-    (both _ _ (left_of _ _ h) (not_from_false _ (priced_more ps p q.mark ∙ or_from _ _ (not-true _ (right_of (named n q.mark) _ h)) (turned q.mark p.mark o.0))))
-    (prices_more n ps p (right_of _ _ k) a o.1)
-
-pub kept_price : (n : ℕ) (ps qs : List Price) (p : Price) → qs ≡ ps ++ p ∷ [] → prices_kept n ps ≡ true → named n p.mark ≡ true → priced ps p.mark ≡ false → prices_kept n qs ≡ true
-kept_price n ps qs p e k a f = ap (prices_kept n) e ∙ prices_more n ps p k a f
-
--- what a check of a price answers, by what its arguments are
-pub same_answer : (n room : ℕ) (place : ℕ) {top top' : ℕ} {ps ps' : List Price} {m m' : ℤ} → top ≡ top' → ps ≡ ps' → m ≡ m'
-    → ◌≡◌ {A = Result (Unit {0}) JudgeFault} (refused_or (price_fault n room top ps m place) tt) (refused_or (price_fault n room top' ps' m' place) tt)
-same_answer n room place {top} {top'} {ps} {ps'} {m} {m'} e f h =
-    ap (λ (x : ℕ). refused_or (price_fault n room x ps m place) tt) e
-    ∙ ap (λ (x : List Price). refused_or (price_fault n room top' x m place) tt) f
-    ∙ ap (λ (x : ℤ). refused_or (price_fault n room top' ps' x place) tt) h
-
 -- nothing entered yet
 pub no_units : (rs : List Rule) → rs ≡ [] → 0 ≡ units_used (rules_of rs)
 unfolding units_used rules_of
@@ -92,6 +59,9 @@ pub no_rules_of : (rs : List Rule) → rs ≡ [] → rules_of rs ≡ []
 unfolding rules_of
 no_rules_of rs e = ap rules_of e
 
-pub no_prices : (n : ℕ) (ps : List Price) → ps ≡ [] → prices_kept n ps ≡ true
-unfolding prices_kept
-no_prices n ps e = ap (prices_kept n) e
+-- the answer to a price, by sizes and a mark that are the same
+pub sized : {y z : Sizes} {k m : ℤ} → y ≡ z → k ≡ m → (top : ℕ) (ps : List Price) (p : ℕ)
+    → ◌≡◌ {A = Result (Unit {0}) JudgeFault} (refused_or (price_fault y.choices y.price_room top ps k p) tt) (refused_or (price_fault z.choices z.price_room top ps m p) tt)
+sized {y} {z} {k} {m} e f top ps p =
+    ap (λ (x : ℤ). refused_or (price_fault y.choices y.price_room top ps x p) tt) f
+    ∙ ap (λ (x : Sizes). refused_or (price_fault x.choices x.price_room top ps m p) tt) e

@@ -1,6 +1,7 @@
 -- The table that a plain judge keeps.
-use Rattle.std.proofs.Common.{arith}
-use Rattle.design.specs.Plan.{Scales, Table}
+use Rattle.std.proofs.Common.{◌∙◌, sym, ap, arith}
+use Rattle.design.specs.Plan.{Scales, Table, prices_kept}
+use Rattle.judge.specs.declared.sizes.Sizes.{Sizes}
 use Rattle.plain.specs.Held.{meaning_of}
 use Rattle.plain.specs.declared.state.Plain.{Plain}
 
@@ -13,9 +14,9 @@ table_of s j = record {
   some_rules = j.sizes.some_rules;
   few_rules = j.sizes.few_rules;
   kept_rules = j.kept_rules;
-  kept_a = j.kept_a;
-  kept_b = j.kept_b;
+  kept_a = ap (λ (z : Sizes). prices_kept z.choices j.prices_a.entries.items) (sym j.a_sizes) ∙ j.prices_a.kept;
+  kept_b = ap (λ (z : Sizes). prices_kept z.choices j.prices_b.entries.items) (sym j.b_sizes) ∙ j.prices_b.kept;
   rules_fit = omega (arith, j.units, j.rules_fit);
-  a_fits = omega (arith, j.prices_a.entries.ok.0, j.a_fits);
-  b_fits = omega (arith, j.prices_b.entries.ok.0, j.b_fits);
+  a_fits = omega (arith, j.prices_a.entries.ok.0, j.prices_a.fits, ap (λ (z : Sizes). z.price_room) j.a_sizes);
+  b_fits = omega (arith, j.prices_b.entries.ok.0, j.prices_b.fits, ap (λ (z : Sizes). z.price_room) j.b_sizes);
 }

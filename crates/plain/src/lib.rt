@@ -12,13 +12,12 @@ ghost use Rattle.plain.specs.Kept.{table_of};
 
 use bits::lowest;
 use design::{JudgeFault, Price};
-use judge::{Judge, Sizes, check_price, check_rule};
+use judge::{Judge, Sizes, check_rule};
 use pricing::PriceList;
 use propagation::{Partial, Rule};
 use scales::Scale;
 pub use state::{Plain, Room};
 use std::alloc::{AllocError, Global};
-use std::marker::PhantomData;
 
 impl Room {
     // Memory for the largest judge: 1,024 rules and 64 prices in each cost.
@@ -49,9 +48,8 @@ impl<A: Scale, B: Scale> Plain<A, B> {
             sizes,
             rules,
             used: 0,
-            prices_a: PriceList::new(prices_a),
-            prices_b: PriceList::new(prices_b),
-            scales: PhantomData,
+            prices_a: PriceList::new(sizes, prices_a),
+            prices_b: PriceList::new(sizes, prices_b),
         }
     }
 }
@@ -104,26 +102,14 @@ impl<A: Scale, B: Scale> Judge for Plain<A, B> {
     }
 
     fn price_a(&mut self, mark: i8, place: u8) -> Result<(), JudgeFault> {
-        check_price(
-            self.sizes,
-            A::top_place(),
-            self.prices_a.as_slice(),
-            mark,
-            place,
-        )?;
-        self.prices_a.push(mark, place);
+        self.prices_a.check(mark, place)?;
+        self.prices_a.append(mark, place);
         Ok(())
     }
 
     fn price_b(&mut self, mark: i8, place: u8) -> Result<(), JudgeFault> {
-        check_price(
-            self.sizes,
-            B::top_place(),
-            self.prices_b.as_slice(),
-            mark,
-            place,
-        )?;
-        self.prices_b.push(mark, place);
+        self.prices_b.check(mark, place)?;
+        self.prices_b.append(mark, place);
         Ok(())
     }
 
@@ -137,9 +123,6 @@ impl<A: Scale, B: Scale> Judge for Plain<A, B> {
 
     fn costs(&self, word: u64) -> (u8, u8) {
         let setting = word & lowest(self.sizes.choices);
-        (
-            self.prices_a.cost::<A>(setting),
-            self.prices_b.cost::<B>(setting),
-        )
+        (self.prices_a.cost(setting), self.prices_b.cost(setting))
     }
 }

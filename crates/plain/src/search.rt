@@ -16,9 +16,9 @@ impl<A: Scale, B: Scale> Plain<A, B> {
         let mut here = at;
         loop {
             let swept = sweep(self.rules.as_slice(), here)?;
-            let within_a = self.prices_a.within::<A>(a, swept)?;
-            let next = self.prices_b.within::<B>(b, within_a)?;
-            if next.up == here.up && next.down == here.down {
+            let within_a = self.prices_a.within(a, swept)?;
+            let next = self.prices_b.within(b, within_a)?;
+            if next == here {
                 return Some(here);
             }
             here = next;
@@ -30,8 +30,8 @@ impl<A: Scale, B: Scale> Plain<A, B> {
         ensures { result ≡ true → Nowhere (Fitting (query (pair_of A.Scale.places B.Scale.places) self.now a b)) at.up at.down }
     {
         let rules = self.rules.as_slice();
-        a < A::top_place() && self.prices_a.least::<A>(rules, at) > a
-            || b < B::top_place() && self.prices_b.least::<B>(rules, at) > b
+        a < A::TOP && self.prices_a.least(rules, at) > a
+            || b < B::TOP && self.prices_b.least(rules, at) > b
     }
 
     // A setting that agrees with `at`, meets the rules and costs at most the bounds.
@@ -53,7 +53,7 @@ impl<A: Scale, B: Scale> Plain<A, B> {
             downs_a | downs_b,
             here,
         );
-        if eased.up != here.up || eased.down != here.down {
+        if eased != here {
             return self.search(a, b, eased);
         }
         let (first, second) = split(self.rules.as_slice(), here);

@@ -1,5 +1,5 @@
-ghost use Rattle.std.specs.Prelude.{◌≡◌, ◌≤◌, true, [], vec_len, vec_capacity};
-ghost use Rattle.design.specs.Plan.{rules_kept, prices_kept};
+ghost use Rattle.std.specs.Prelude.{◌≡◌, ◌≤◌, true, [], vec_capacity};
+ghost use Rattle.design.specs.Plan.{rules_kept};
 ghost use Rattle.design.specs.Rule.{units_used};
 ghost use Rattle.propagation.specs.Held.{rules_of};
 
@@ -7,7 +7,6 @@ use design::Price;
 use judge::Sizes;
 use pricing::PriceList;
 use propagation::Rule;
-use std::marker::PhantomData;
 
 // The memory of a plain judge of any sizes, had before its making.
 #[derive(Drop)]
@@ -30,16 +29,13 @@ pub struct Plain<A, B> {
     pub(crate) rules: Vec<Rule>,
     // the units of R that the rules take
     pub(crate) used: u16,
-    pub(crate) prices_a: PriceList,
-    pub(crate) prices_b: PriceList,
-    pub(crate) scales: PhantomData<(A, B)>,
+    pub(crate) prices_a: PriceList<A>,
+    pub(crate) prices_b: PriceList<B>,
     ghost units: { used ≡ units_used (rules_of rules.items) },
     ghost rules_fit: { used ≤ sizes.rule_room },
-    ghost a_fits: { vec_len prices_a.entries ≤ sizes.price_room },
-    ghost b_fits: { vec_len prices_b.entries ≤ sizes.price_room },
+    ghost a_sizes: { prices_a.sizes ≡ sizes },
+    ghost b_sizes: { prices_b.sizes ≡ sizes },
     ghost kept_rules: { rules_kept sizes.choices (rules_of rules.items) ≡ true },
-    ghost kept_a: { prices_kept sizes.choices prices_a.entries.items ≡ true },
-    ghost kept_b: { prices_kept sizes.choices prices_b.entries.items ≡ true },
     ghost rule_memory: { 1024 ≤ vec_capacity rules },
     ghost a_memory: { 64 ≤ vec_capacity prices_a.entries },
     ghost b_memory: { 64 ≤ vec_capacity prices_b.entries },

@@ -71,11 +71,11 @@ fn enter_any<J: Judge>(
             enter_rule(rt, planner, model, heap, marks.as_slice())
         }
         2..=5 => {
-            let price = draw_price(random, &model.draft, J::CostA::top_place(), true);
+            let price = draw_price(random, &model.draft, J::CostA::TOP, true);
             enter_price_a(rt, planner, model, price)
         }
         _ => {
-            let price = draw_price(random, &model.draft, J::CostB::top_place(), false);
+            let price = draw_price(random, &model.draft, J::CostB::TOP, false);
             enter_price_b(rt, planner, model, price)
         }
     }

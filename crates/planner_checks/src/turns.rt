@@ -33,7 +33,7 @@ pub(crate) fn enter_price_a<J: Judge>(
     price: Price,
 ) -> Result<(), Fail> {
     let (choices, room) = (model.draft.choices, model.draft.price_room);
-    let top = J::CostA::top_place();
+    let top = J::CostA::TOP;
     let refusal = price_refusal(choices, room, top, model.draft.prices_a.as_slice(), price);
     let owed = model.owed(refusal);
     assert_eq!(rt; verdict_of(planner.price_a(price.mark, price.place)), owed);
@@ -50,7 +50,7 @@ pub(crate) fn enter_price_b<J: Judge>(
     price: Price,
 ) -> Result<(), Fail> {
     let (choices, room) = (model.draft.choices, model.draft.price_room);
-    let top = J::CostB::top_place();
+    let top = J::CostB::TOP;
     let refusal = price_refusal(choices, room, top, model.draft.prices_b.as_slice(), price);
     let owed = model.owed(refusal);
     assert_eq!(rt; verdict_of(planner.price_b(price.mark, price.place)), owed);

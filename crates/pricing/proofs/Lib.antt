@@ -1,3 +1,4 @@
 pub mod Tabling
 pub mod Costing
 pub mod Bounding
+pub mod Entering

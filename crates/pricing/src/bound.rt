@@ -5,7 +5,7 @@ ghost use Rattle.design.specs.Cost.{cost};
 ghost use Rattle.pricing.specs.Bounds.{sure, sure_total, Excluded, Bounded, Least, AtMost, Cheap};
 
 use crate::list::PriceList;
-use bits::{has_bit, highest_index, without, without_bit};
+use bits::{has_bit, members_of, without};
 use design::choice_bit;
 use propagation::{Partial, Rule, down_word, up_word};
 use scales::{Scale, join_places};
@@ -35,18 +35,15 @@ fn least_at(table: &[u8; 64], word: u64, start: u8) -> u8
     ensures { AtMost table.now word start result }
 {
     let mut least = start;
-    let mut rest = word;
-    while rest != 0 {
-        let k = highest_index(rest);
+    for k in members_of(word) {
         least = least.min(table[k as usize]);
-        rest = without_bit(rest, k);
     }
     least
 }
 
-impl PriceList {
+impl<S: Scale> PriceList<S> {
     // What the sure marks cost.
-    fn sure_cost<S: Scale>(&self, at: Partial) -> u8
+    fn sure_cost(&self, at: Partial) -> u8
         ensures { result ≡ sure_total S.Scale.places self.now.entries.items at }
     {
         let mut sum = S::nothing();
@@ -59,23 +56,23 @@ impl PriceList {
     }
 
     // The cost of a word.
-    pub fn cost<S: Scale>(&self, word: u64) -> u8
+    pub fn cost(&self, word: u64) -> u8
         ensures { result ≡ cost S.Scale.places self.now.entries.items word }
     {
-        self.sure_cost::<S>(Partial {
+        self.sure_cost(Partial {
             up: word,
             down: word ^ u64::MAX,
         })
     }
 
     // Excludes the marks that would break a bound; nothing where the sure marks break it.
-    pub fn within<S: Scale>(&self, bound: u8, at: Partial) -> Option<Partial>
+    pub fn within(&self, bound: u8, at: Partial) -> Option<Partial>
         ensures { Bounded S.Scale.places self.now.entries.items bound at result }
     {
-        if bound >= S::top_place() {
+        if bound >= S::TOP {
             return Some(at);
         }
-        let sum = self.sure_cost::<S>(at);
+        let sum = self.sure_cost(at);
         if sum > bound {
             return None;
         }
@@ -101,10 +98,10 @@ impl PriceList {
 
     // What every setting that agrees and meets the rules costs at least: the sure marks, joined with
     // the cheapest mark of rules that share no choice.
-    pub fn least<S: Scale>(&self, rules: &[Rule], at: Partial) -> u8
+    pub fn least(&self, rules: &[Rule], at: Partial) -> u8
         ensures { Least S.Scale.places rules.now self.now.entries.items at result }
     {
-        let mut sum = self.sure_cost::<S>(at);
+        let mut sum = self.sure_cost(at);
         let mut seen = (at.up & at.down) ^ u64::MAX;
         for rule in rules {
             let takes = rule.ups & at.up;

@@ -1,19 +1,27 @@
-ghost use Rattle.std.specs.Prelude.{◌≡◌, true};
+ghost use Rattle.std.specs.Prelude.{◌≡◌, ◌≤◌, true, vec_len};
 ghost use Rattle.design.specs.Mark.{all_are_named};
+ghost use Rattle.design.specs.Plan.{prices_kept};
 ghost use Rattle.propagation.specs.Masks.{ups_of, downs_of};
 ghost use Rattle.pricing.specs.Tables.{marks_in, take_mark, leave_mark, Tabled};
 
 use design::Price;
+use judge::Sizes;
+use std::marker::PhantomData;
 
-// The prices of one cost, in order of entry, and beside them what the search asks of them: the price
-// of taking and of leaving each choice (0 for none), and the choices that have one, as words.
+// The prices of one cost of scale S, in order of entry, and beside them what the search asks of
+// them: the price of taking and of leaving each choice (0 for none), and the choices that have one,
+// as words.
 #[derive(Drop)]
-pub struct PriceList {
+pub struct PriceList<S> {
+    pub(crate) sizes: Sizes,
     pub(crate) entries: Vec<Price>,
     pub(crate) taking: [u8; 64],
     pub(crate) leaving: [u8; 64],
     pub(crate) ups: u64,
     pub(crate) downs: u64,
+    pub(crate) scale: PhantomData<S>,
+    ghost fits: { vec_len entries ≤ sizes.price_room },
+    ghost kept: { prices_kept sizes.choices entries.items ≡ true },
     ghost named: { all_are_named 64 (marks_in entries.items) ≡ true },
     ghost take_table: { Tabled take_mark taking entries.items },
     ghost leave_table: { Tabled leave_mark leaving entries.items },

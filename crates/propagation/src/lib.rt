@@ -41,11 +41,11 @@ impl Rule {
         requires named { all_are_named 64 marks.now ≡ true }
         ensures { marks_of result ≡ marks.now }
     {
-        let mut held = [0i8; 8];
-        let mut ups: u64 = 0;
-        let mut downs: u64 = 0;
-        for (i, mark) in marks.iter().enumerate() {
-            held[i] = *mark;
+        let mut held = [0; 8];
+        held[..marks.len()].copy_from_slice(marks);
+        let mut ups = 0;
+        let mut downs = 0;
+        for mark in marks {
             ups |= up_word(*mark);
             downs |= down_word(*mark);
         }

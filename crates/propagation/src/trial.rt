@@ -4,73 +4,64 @@ ghost use Rattle.propagation.specs.Narrowing.{Halves};
 
 use crate::partial::Partial;
 use crate::rule::Rule;
-use bits::{highest_index, without_bit};
+use bits::{highest_index, members_of, without_bit};
 
-// How much open rules ask for each choice to be taken, and to be left. Short rules weigh more.
+// How much open rules ask for a choice to be taken, and to be left. Short rules weigh more.
 #[derive(Clone, Copy)]
-struct Weights {
-    up: [u32; 64],
-    down: [u32; 64],
+struct Weight {
+    up: u32,
+    down: u32,
 }
 
-// Adds a weight for each choice of a word.
-fn add_weight(weights: &mut [u32; 64], word: u64, weight: u32) {
-    let mut rest = word;
-    while rest != 0 {
-        let k = highest_index(rest);
-        weights[k as usize] = weights[k as usize].saturating_add(weight);
-        rest = without_bit(rest, k);
+impl Weight {
+    fn score(self) -> u64 {
+        (u64::from(self.up) + 1).saturating_mul(u64::from(self.down) + 1)
     }
 }
 
-fn weigh(rules: &[Rule], at: Partial) -> Weights {
-    let mut weights = Weights {
-        up: [0; 64],
-        down: [0; 64],
-    };
+// Adds what an open rule asks for.
+fn add_rule(weights: &mut [Weight; 64], takes: u64, leaves: u64) {
+    let marks = takes
+        .count_ones()
+        .saturating_add(leaves.count_ones())
+        .min(8);
+    let weight = 1 << (2 * (8 - marks));
+    for k in members_of(takes) {
+        let old = weights[k as usize];
+        weights[k as usize].up = old.up.saturating_add(weight);
+    }
+    for k in members_of(leaves) {
+        let old = weights[k as usize];
+        weights[k as usize].down = old.down.saturating_add(weight);
+    }
+}
+
+fn weigh(rules: &[Rule], at: Partial) -> [Weight; 64] {
+    let mut weights = [Weight { up: 0, down: 0 }; 64];
     for rule in rules {
         if !rule.is_met(at) {
-            let takes = rule.ups & at.up;
-            let leaves = rule.downs & at.down;
-            let marks = takes
-                .count_ones()
-                .saturating_add(leaves.count_ones())
-                .min(8);
-            let weight = 1 << (2 * (8 - marks));
-            add_weight(&mut weights.up, takes, weight);
-            add_weight(&mut weights.down, leaves, weight);
+            add_rule(&mut weights, rule.ups & at.up, rule.downs & at.down);
         }
     }
     weights
 }
 
 // The open choice that open rules ask for most, by both values.
-fn heaviest(weights: &Weights, among: u64) -> u32
+fn heaviest(weights: &[Weight; 64], among: u64) -> u32
     requires { 0 < among }
     ensures low { result < 64 }
     ensures inside { bit among result ≡ true }
 {
     let mut best = highest_index(among);
-    let mut most = score(weights, best);
-    let mut rest = without_bit(among, best);
-    while rest != 0 {
-        let k = highest_index(rest);
-        let here = score(weights, k);
-        if here > most {
+    let mut most = 0;
+    for k in members_of(among) {
+        let score = weights[k as usize].score();
+        if score > most {
             best = k;
-            most = here;
+            most = score;
         }
-        rest = without_bit(rest, k);
     }
     best
-}
-
-fn score(weights: &Weights, k: u32) -> u64
-    requires { k < 64 }
-{
-    let up = u64::from(weights.up[k as usize]);
-    let down = u64::from(weights.down[k as usize]);
-    (up + 1).saturating_mul(down + 1)
 }
 
 // A trial: some open choice with one value, and the same with the other. Which choice and which
@@ -90,7 +81,8 @@ pub fn split(rules: &[Rule], at: Partial) -> (Partial, Partial)
         up: at.up,
         down: without_bit(at.down, k),
     };
-    if weights.up[k as usize] > weights.down[k as usize] {
+    let weight = weights[k as usize];
+    if weight.up > weight.down {
         (taken, left)
     } else {
         (left, taken)

@@ -1,3 +1,4 @@
 pub mod Laws
+pub mod Counts
 pub mod Many
 pub mod Models

@@ -2,14 +2,14 @@
 // its top, and joins two values into one. Everything above is one text for every scale.
 #![tactic(auto)]
 
-mod values;
+mod count;
 
-ghost use Rattle.std.specs.Prelude.{◌≡◌, ℕ};
+ghost use Rattle.std.specs.Prelude.{◌≡◌, ℕ, refl};
 ghost use Rattle.scales.specs.Laws.{Places, Laws};
 ghost use Rattle.scales.specs.Many.{JoinedMany};
 ghost use Rattle.scales.specs.Models.{hours_places, quarters_at, quarters_sum, hours_laws, needles_places, needles_at, needles_larger, needles_laws};
 
-pub use values::{QuarterHours, ShogNeedles};
+pub use count::Count;
 
 pub trait Scale {
     type Value: Copy;
@@ -17,8 +17,12 @@ pub trait Scale {
     // The highest place, from 1 to 200.
     const TOP: u8;
 
+    ghost TOP: { ℕ };
+
     // The scale by its places alone: its top, and the place of two places joined.
     ghost places: { Places };
+
+    ghost topped: { TOP ≡ places.top };
 
     ghost place: { Self.Value → ℕ };
 
@@ -29,12 +33,11 @@ pub trait Scale {
 
     ghost laws: { Laws places place at joined };
 
-    // `TOP`, for code that is generic in the scale: no clause can speak of an associated constant.
-    fn top_place() -> u8
-        ensures { result ≡ places.top };
-
     fn nothing() -> Self::Value
-        ensures { result ≡ at 0 };
+        ensures { result ≡ at 0 }
+    {
+        Self::from_place(0)
+    }
 
     fn from_place(p: u8) -> Self::Value
         ensures { result ≡ at p };
@@ -46,6 +49,8 @@ pub trait Scale {
         ensures { result ≡ joined u v };
 }
 
+pub type QuarterHours = Count<40>;
+
 // Quarter hours of threading: they add up, to 40 at most.
 pub struct Hours;
 
@@ -54,7 +59,11 @@ impl Scale for Hours {
 
     const TOP: u8 = 40;
 
+    ghost TOP = { 40 };
+
     ghost places = { hours_places };
+
+    ghost topped = { refl };
 
     ghost place = { λ v. v.count };
 
@@ -64,30 +73,20 @@ impl Scale for Hours {
 
     ghost laws = { hours_laws };
 
-    fn top_place() -> u8 {
-        Self::TOP
-    }
-
-    fn nothing() -> QuarterHours {
-        QuarterHours { count: 0 }
-    }
-
     fn from_place(p: u8) -> QuarterHours {
-        QuarterHours {
-            count: p.min(Self::TOP),
-        }
+        Count::new(p)
     }
 
     fn place_of(v: QuarterHours) -> u8 {
-        v.count
+        v.get()
     }
 
     fn join(u: QuarterHours, v: QuarterHours) -> QuarterHours {
-        QuarterHours {
-            count: (u.count + v.count).min(Self::TOP),
-        }
+        u.plus(v)
     }
 }
+
+pub type ShogNeedles = Count<24>;
 
 // Needles of shog: the worst one counts, 24 at most.
 pub struct Needles;
@@ -97,7 +96,11 @@ impl Scale for Needles {
 
     const TOP: u8 = 24;
 
+    ghost TOP = { 24 };
+
     ghost places = { needles_places };
+
+    ghost topped = { refl };
 
     ghost place = { λ v. v.count };
 
@@ -107,28 +110,16 @@ impl Scale for Needles {
 
     ghost laws = { needles_laws };
 
-    fn top_place() -> u8 {
-        Self::TOP
-    }
-
-    fn nothing() -> ShogNeedles {
-        ShogNeedles { count: 0 }
-    }
-
     fn from_place(p: u8) -> ShogNeedles {
-        ShogNeedles {
-            count: p.min(Self::TOP),
-        }
+        Count::new(p)
     }
 
     fn place_of(v: ShogNeedles) -> u8 {
-        v.count
+        v.get()
     }
 
     fn join(u: ShogNeedles, v: ShogNeedles) -> ShogNeedles {
-        ShogNeedles {
-            count: u.count.max(v.count),
-        }
+        u.max(v)
     }
 }
 

@@ -3,7 +3,5 @@
 #![tactic(auto)]
 
 mod scale;
-mod values;
 
-pub use scale::{Skips, Sum200};
-pub use values::{Points, SkipCount};
+pub use scale::{Points, SkipCount, Skips, Sum200};

@@ -1,8 +1,9 @@
-ghost use Rattle.std.specs.Prelude.{◌≡◌};
+ghost use Rattle.std.specs.Prelude.{◌≡◌, refl};
 ghost use Rattle.test_scales.specs.Models.{skips_places, skips_at, skips_joined, skips_laws, sum_places, sum_at, sum_joined, sum_laws};
 
-use crate::values::{Points, SkipCount};
-use scales::Scale;
+use scales::{Count, Scale};
+
+pub type SkipCount = Count<3>;
 
 // Skips: any two of them come to the worst, 3.
 pub struct Skips;
@@ -12,7 +13,11 @@ impl Scale for Skips {
 
     const TOP: u8 = 3;
 
+    ghost TOP = { 3 };
+
     ghost places = { skips_places };
+
+    ghost topped = { refl };
 
     ghost place = { λ v. v.count };
 
@@ -22,34 +27,24 @@ impl Scale for Skips {
 
     ghost laws = { skips_laws };
 
-    fn top_place() -> u8 {
-        Self::TOP
-    }
-
-    fn nothing() -> SkipCount {
-        SkipCount { count: 0 }
-    }
-
     fn from_place(p: u8) -> SkipCount {
-        SkipCount {
-            count: p.min(Self::TOP),
-        }
+        Count::new(p)
     }
 
     fn place_of(v: SkipCount) -> u8 {
-        v.count
+        v.get()
     }
 
     fn join(u: SkipCount, v: SkipCount) -> SkipCount {
-        if u.count == 0 {
-            return v;
+        match (u.get(), v.get()) {
+            (0, _) => v,
+            (_, 0) => u,
+            _ => Count::new(Self::TOP),
         }
-        if v.count == 0 {
-            return u;
-        }
-        SkipCount { count: Self::TOP }
     }
 }
+
+pub type Points = Count<200>;
 
 // Points: they add up, to the highest top that a scale may have.
 pub struct Sum200;
@@ -59,7 +54,11 @@ impl Scale for Sum200 {
 
     const TOP: u8 = 200;
 
+    ghost TOP = { 200 };
+
     ghost places = { sum_places };
+
+    ghost topped = { refl };
 
     ghost place = { λ v. v.count };
 
@@ -69,27 +68,15 @@ impl Scale for Sum200 {
 
     ghost laws = { sum_laws };
 
-    fn top_place() -> u8 {
-        Self::TOP
-    }
-
-    fn nothing() -> Points {
-        Points { count: 0 }
-    }
-
     fn from_place(p: u8) -> Points {
-        Points {
-            count: p.min(Self::TOP),
-        }
+        Count::new(p)
     }
 
     fn place_of(v: Points) -> u8 {
-        v.count
+        v.get()
     }
 
     fn join(u: Points, v: Points) -> Points {
-        Points {
-            count: u.count.saturating_add(v.count).min(Self::TOP),
-        }
+        u.plus(v)
     }
 }

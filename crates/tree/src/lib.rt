@@ -26,8 +26,8 @@ pub fn choices_needed<A: Scale, B: Scale>(sizes: Sizes) -> u16
     ensures needed { result ≡ needed_choices (pair_of A.Scale.places B.Scale.places) sizes.choices sizes.price_room }
     ensures own { ChoicesSuffice (pair_of A.Scale.places B.Scale.places) }
 {
-    let tops = A::top_place() as u16 + B::top_place() as u16;
-    sizes.choices as u16 + (sizes.price_room as u16 - 1) * tops
+    let tops = u16::from(A::TOP) + u16::from(B::TOP);
+    u16::from(sizes.choices) + (u16::from(sizes.price_room) - 1) * tops
 }
 
 // K, the clause room that it needs: that of the rules, and for each such node four numbers for each
@@ -36,9 +36,9 @@ pub fn room_needed<A: Scale, B: Scale>(sizes: Sizes) -> usize
     ensures needed { result ≡ needed_room (pair_of A.Scale.places B.Scale.places) sizes.price_room sizes.rule_room }
     ensures fit { ClausesFit (pair_of A.Scale.places B.Scale.places) }
 {
-    let a = A::top_place() as usize + 1;
-    let b = B::top_place() as usize + 1;
-    sizes.rule_room as usize + 4 * (sizes.price_room as usize - 1) * (a * a + b * b - 2)
+    let a = usize::from(A::TOP) + 1;
+    let b = usize::from(B::TOP) + 1;
+    usize::from(sizes.rule_room) + 4 * (usize::from(sizes.price_room) - 1) * (a * a + b * b - 2)
 }
 
 // Whether a solver has the M and K that a tree of these sizes needs.

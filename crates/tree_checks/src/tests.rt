@@ -76,7 +76,7 @@ fn compare_tree<A: Scale, B: Scale, S: Solver + Drop>(
         sizes.choices,
     );
     if random.once_in(3) {
-        let limit = random.below(B::top_place());
+        let limit = random.below(B::TOP);
         draft.limit_a = limit;
         return compare_judge(
             rt,

@@ -1,26 +1,25 @@
 -- The marks of a bound, one after another.
-use Rattle.std.proofs.Common.{◌≡◌, ℕ, ◌+◌, ◌-◌, ◌<◌, ◌≤◌, eqb, List, [], ◌∷◌, ◌++◌, length, take, set, ℤ, neg_ℤ, sym, refl, ap, ◌∙◌, ap₂, append_assoc, append-nil, add-one, arith}
-use Rattle.std.proofs.lemmas.List.{take_more_set}
+use Rattle.std.proofs.Common.{◌≡◌, ℕ, ◌+◌, ◌-◌, ◌≤◌, eqb, List, [], ◌∷◌, ◌++◌, length, ℤ, neg_ℤ, sym, refl, ap, ◌∙◌, ap₂, append_assoc, append-nil, add-one, arith}
 use Rattle.std.proofs.lemmas.Bool.{cond-true, cond-false, eq-eqb, ne_eqb}
 use Rattle.design.specs.declared.price.Price.{Price}
 use Rattle.totalizer.specs.declared.Literal.{Literal}
 use Rattle.totalizer.specs.declared.Literal.TheVariants.{Always, Never, Mark}
 use Rattle.totalizer.specs.Clauses.{gather, denial, denied, assumed}
 
-pub said_more : (ms ms' zs : List ℤ) (u u' k : ℕ) (z y : ℤ) (a : Literal) (g : ℕ → List ℤ) → take u ms ≡ zs ++ gather g k → u < length ms → ms' ≡ set ms u y → u' ≡ u + 1
-    → y ≡ neg_ℤ z → a ≡ Mark z → g k ≡ denial a → take u' ms' ≡ zs ++ gather g (k + 1)
+pub said_more : (ms ms' zs : List ℤ) (k : ℕ) (z y : ℤ) (a : Literal) (g : ℕ → List ℤ) → ms ≡ zs ++ gather g k → ms' ≡ ms ++ y ∷ []
+    → y ≡ neg_ℤ z → a ≡ Mark z → g k ≡ denial a → ms' ≡ zs ++ gather g (k + 1)
 unfolding gather
-said_more ms ms' zs u u' k z y a g e h p q o s t =
-    ap₂ take q p ∙ take_more_set ms u y h ∙ ap₂ (λ (l : List ℤ) (x : ℤ). l ++ x ∷ []) e o
+said_more ms ms' zs k z y a g e p o s t =
+    p ∙ ap₂ (λ (l : List ℤ) (x : ℤ). l ++ x ∷ []) e o
     ∙ append_assoc zs (gather g k) (neg_ℤ z ∷ [])
     ∙ ap (λ (l : List ℤ). zs ++ (gather g k ++ l)) (sym (t ∙ ap denial s))
     ∙ ap (λ (j : ℕ). zs ++ gather g j) (sym (add-one k))
 
-pub quiet_more : (ms ms' zs : List ℤ) (u u' k : ℕ) (a : Literal) (g : ℕ → List ℤ) → take u ms ≡ zs ++ gather g k → ms' ≡ ms → u' ≡ u
-    → ((m : ℤ) → a ≡ Mark m → ⊥) → g k ≡ denial a → take u' ms' ≡ zs ++ gather g (k + 1)
+pub quiet_more : (ms zs : List ℤ) (k : ℕ) (a : Literal) (g : ℕ → List ℤ) → ms ≡ zs ++ gather g k
+    → ((m : ℤ) → a ≡ Mark m → ⊥) → g k ≡ denial a → ms ≡ zs ++ gather g (k + 1)
 unfolding gather
-quiet_more ms ms' zs u u' k a g e p q s t =
-    ap₂ take q p ∙ e ∙ ap (λ (l : List ℤ). zs ++ l) (sym (append-nil (gather g k)))
+quiet_more ms zs k a g e s t =
+    e ∙ ap (λ (l : List ℤ). zs ++ l) (sym (append-nil (gather g k)))
     ∙ ap (λ (l : List ℤ). zs ++ (gather g k ++ l)) (sym (t ∙ quiet a s))
     ∙ ap (λ (j : ℕ). zs ++ gather g j) (sym (add-one k))
   where

@@ -3,43 +3,21 @@
 // what the prices' marks say up to the root.
 #![tactic(auto)]
 
-ghost use Rattle.std.specs.Prelude.{◌≡◌, ℕ, ◌+◌, ◌-◌, ◌*◌, ◌^◌, ◌<◌, ◌≤◌, [], ◌∷◌, ◌++◌, length, take};
+mod heap;
+
+ghost use Rattle.std.specs.Prelude.{◌≡◌, ◌+◌, ◌-◌, ◌*◌, ◌^◌, ◌<◌, ◌≤◌, [], ◌∷◌, ◌++◌, length};
+ghost use Rattle.arrayvec.specs.ArrayVec.{array_vec_len};
 ghost use Rattle.solver.specs.State.{with_clauses};
 ghost use Rattle.totalizer.specs.Clauses.{number, literal, joins_to, pair, row, grid, tree, assumed};
 ghost use Rattle.writer.specs.Writes.{Takes, Small, Inner, Short};
 
+use arrayvec::ArrayVec;
 use design::Price;
+pub use heap::Heap;
 use scales::{Scale, join_places};
 use solver::Solver;
+use std::marker::PhantomData;
 use totalizer::Literal;
-
-// The extra choice "the node costs at least this place", of those past `base`.
-pub fn number_of(base: u16, top: u8, node: usize, place: u8) -> u16
-    requires { (1 ≤ node) × ((node < 128) × (number base top node place < 2 ^ 15)) }
-    ensures { result ≡ number base top node place }
-{
-    base + (node as u16 - 1) * top as u16 + place as u16
-}
-
-// What stands for "the node costs at least this place".
-pub fn literal_of(base: u16, top: u8, prices: &[Price], node: usize, place: u8) -> Literal
-    requires { (1 ≤ node) × ((node < 2 * length prices.now) × ((place ≤ top) × (Small base top (length prices.now)))) }
-    ensures is { result ≡ literal top base prices.now node place }
-    ensures short { Short result }
-{
-    if place == 0 {
-        Literal::Always
-    } else if node < prices.len() {
-        Literal::Mark(number_of(base, top, node, place) as i16)
-    } else {
-        let price = prices[node - prices.len()];
-        if place <= price.place {
-            Literal::Mark(price.mark as i16)
-        } else {
-            Literal::Never
-        }
-    }
-}
 
 // Appends a clause for which there is room.
 pub fn append<S: Solver>(solver: &mut S, marks: &[i16])
@@ -73,103 +51,112 @@ pub fn write_joining<S: Solver>(solver: &mut S, left: Literal, right: Literal, j
     }
 }
 
-// The clause for two places of a node's children; none for both at 0.
-pub fn write_pair<C: Scale, S: Solver>(
-    solver: &mut S,
-    base: u16,
-    prices: &[Price],
-    node: usize,
-    left: u8,
-    right: u8,
-)
-    requires inner { Inner (length prices.now) node }
-    requires places { (left ≤ C.Scale.places.top) × (right ≤ C.Scale.places.top) }
-    requires small { Small base C.Scale.places.top (length prices.now) }
-    requires takes { Takes (S.Solver.meaning solver.old) (pair C.Scale.places base prices.now node left right) }
-    ensures { S.Solver.meaning solver.new ≡ with_clauses (S.Solver.meaning solver.old) (pair C.Scale.places base prices.now node left right) }
-{
-    if left == 0 && right == 0 {
-        return;
+impl<'a, C: Scale> Heap<'a, C> {
+    pub fn new(base: u16, prices: &'a [Price]) -> Heap<'a, C>
+        requires { Small base C.Scale.places.top (length prices.now) }
+        ensures base { result.base ≡ base }
+        ensures prices { result.prices.now ≡ prices.now }
+    {
+        Heap {
+            base,
+            prices,
+            scale: PhantomData,
+        }
     }
-    let top = C::top_place();
-    let joined = join_places::<C>(left, right);
-    let at_left = literal_of(base, top, prices, 2 * node, left);
-    let at_right = literal_of(base, top, prices, 2 * node + 1, right);
-    write_joining(
-        solver,
-        at_left,
-        at_right,
-        number_of(base, top, node, joined),
-    );
-}
 
-// The clauses for one place of a node's left child.
-pub fn write_row<C: Scale, S: Solver>(
-    solver: &mut S,
-    base: u16,
-    prices: &[Price],
-    node: usize,
-    left: u8,
-)
-    requires inner { Inner (length prices.now) node }
-    requires places { left ≤ C.Scale.places.top }
-    requires small { Small base C.Scale.places.top (length prices.now) }
-    requires takes { Takes (S.Solver.meaning solver.old) (row C.Scale.places base prices.now node left) }
-    ensures { S.Solver.meaning solver.new ≡ with_clauses (S.Solver.meaning solver.old) (row C.Scale.places base prices.now node left) }
-{
-    let top = C::top_place();
-    for right in 0..top + 1 {
-        write_pair::<C, S>(solver, base, prices, node, left, right);
+    // The extra choice "the node costs at least this place".
+    pub fn number(&self, node: usize, place: u8) -> u16
+        requires inner { Inner (length self.now.prices.now) node }
+        requires place { place ≤ C.Scale.places.top }
+        ensures is { result ≡ number self.now.base C.Scale.places.top node place }
+        ensures small { result < 2 ^ 15 }
+    {
+        self.base + (node as u16 - 1) * u16::from(C::TOP) + u16::from(place)
     }
-}
 
-// The clauses of a node that joins two others.
-pub fn write_node<C: Scale, S: Solver>(solver: &mut S, base: u16, prices: &[Price], node: usize)
-    requires inner { Inner (length prices.now) node }
-    requires small { Small base C.Scale.places.top (length prices.now) }
-    requires takes { Takes (S.Solver.meaning solver.old) (grid C.Scale.places base prices.now node) }
-    ensures { S.Solver.meaning solver.new ≡ with_clauses (S.Solver.meaning solver.old) (grid C.Scale.places base prices.now node) }
-{
-    let top = C::top_place();
-    for left in 0..top + 1 {
-        write_row::<C, S>(solver, base, prices, node, left);
+    // What stands for "the node costs at least this place".
+    pub fn literal(&self, node: usize, place: u8) -> Literal
+        requires node { (1 ≤ node) × (node < 2 * length self.now.prices.now) }
+        requires place { place ≤ C.Scale.places.top }
+        ensures is { result ≡ literal C.Scale.places.top self.now.base self.now.prices.now node place }
+        ensures short { Short result }
+    {
+        if place == 0 {
+            return Literal::Always;
+        }
+        if node < self.prices.len() {
+            return Literal::Mark(self.number(node, place) as i16);
+        }
+        let price = self.prices[node - self.prices.len()];
+        if place <= price.place {
+            Literal::Mark(i16::from(price.mark))
+        } else {
+            Literal::Never
+        }
     }
-}
 
-// All clauses of one cost, from the last node to the root.
-pub fn write_tree<C: Scale, S: Solver>(solver: &mut S, base: u16, prices: &[Price])
-    requires small { Small base C.Scale.places.top (length prices.now) }
-    requires takes { Takes (S.Solver.meaning solver.old) (tree C.Scale.places base prices.now) }
-    ensures { S.Solver.meaning solver.new ≡ with_clauses (S.Solver.meaning solver.old) (tree C.Scale.places base prices.now) }
-{
-    for done in 1..prices.len() {
-        write_node::<C, S>(solver, base, prices, prices.len() - done);
+    // The clause for two places of a node's children; none for both at 0.
+    pub fn write_pair<S: Solver>(&self, solver: &mut S, node: usize, left: u8, right: u8)
+        requires inner { Inner (length self.now.prices.now) node }
+        requires places { (left ≤ C.Scale.places.top) × (right ≤ C.Scale.places.top) }
+        requires takes { Takes (S.Solver.meaning solver.old) (pair C.Scale.places self.now.base self.now.prices.now node left right) }
+        ensures { S.Solver.meaning solver.new ≡ with_clauses (S.Solver.meaning solver.old) (pair C.Scale.places self.now.base self.now.prices.now node left right) }
+    {
+        if left == 0 && right == 0 {
+            return;
+        }
+        let at_left = self.literal(2 * node, left);
+        let at_right = self.literal(2 * node + 1, right);
+        let joined = self.number(node, join_places::<C>(left, right));
+        write_joining(solver, at_left, at_right, joined);
     }
-}
 
-// Denies each place of the root above the bound: writes those marks from `from` on, and answers
-// where they end.
-pub fn assume(
-    marks: &mut [i16],
-    from: usize,
-    base: u16,
-    top: u8,
-    prices: &[Price],
-    bound: u8,
-) -> usize
-    requires small { Small base top (length prices.now) }
-    requires room { (from + (top - bound) ≤ length marks.old) × (top < 255) }
-    ensures ends { (result ≤ length marks.new) × (result ≤ from + (top - bound)) }
-    ensures writes { take result marks.new ≡ take from marks.old ++ assumed top base prices.now bound }
-{
-    let mut used = from;
-    if prices.len() > 0 {
-        for above in 0..top.saturating_sub(bound) {
-            if let Literal::Mark(mark) = literal_of(base, top, prices, 1, bound + 1 + above) {
-                marks[used] = -mark;
-                used += 1;
+    // The clauses for one place of a node's left child.
+    pub fn write_row<S: Solver>(&self, solver: &mut S, node: usize, left: u8)
+        requires inner { Inner (length self.now.prices.now) node }
+        requires places { left ≤ C.Scale.places.top }
+        requires takes { Takes (S.Solver.meaning solver.old) (row C.Scale.places self.now.base self.now.prices.now node left) }
+        ensures { S.Solver.meaning solver.new ≡ with_clauses (S.Solver.meaning solver.old) (row C.Scale.places self.now.base self.now.prices.now node left) }
+    {
+        for right in 0..C::TOP + 1 {
+            self.write_pair(solver, node, left, right);
+        }
+    }
+
+    // The clauses of a node that joins two others.
+    pub fn write_node<S: Solver>(&self, solver: &mut S, node: usize)
+        requires inner { Inner (length self.now.prices.now) node }
+        requires takes { Takes (S.Solver.meaning solver.old) (grid C.Scale.places self.now.base self.now.prices.now node) }
+        ensures { S.Solver.meaning solver.new ≡ with_clauses (S.Solver.meaning solver.old) (grid C.Scale.places self.now.base self.now.prices.now node) }
+    {
+        for left in 0..C::TOP + 1 {
+            self.write_row(solver, node, left);
+        }
+    }
+
+    // All clauses of the cost, from the last node to the root.
+    pub fn write<S: Solver>(&self, solver: &mut S)
+        requires { Takes (S.Solver.meaning solver.old) (tree C.Scale.places self.now.base self.now.prices.now) }
+        ensures { S.Solver.meaning solver.new ≡ with_clauses (S.Solver.meaning solver.old) (tree C.Scale.places self.now.base self.now.prices.now) }
+    {
+        for done in 1..self.prices.len() {
+            self.write_node(solver, self.prices.len() - done);
+        }
+    }
+
+    // Denies each place of the root above the bound.
+    pub fn assume<const CAP: usize>(&self, marks: &mut ArrayVec<i16, CAP>, bound: u8)
+        requires { array_vec_len marks.old + (C.Scale.places.top - bound) ≤ CAP }
+        ensures items { marks.new.items ≡ marks.old.items ++ assumed C.Scale.places.top self.now.base self.now.prices.now bound }
+        ensures few { array_vec_len marks.new ≤ array_vec_len marks.old + (C.Scale.places.top - bound) }
+    {
+        if self.prices.is_empty() {
+            return;
+        }
+        for above in 0..C::TOP.saturating_sub(bound) {
+            if let Literal::Mark(mark) = self.literal(1, bound + 1 + above) {
+                marks.push(-mark);
             }
         }
     }
-    used
 }

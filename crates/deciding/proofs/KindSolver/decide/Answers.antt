@@ -1,4 +1,5 @@
-use Rattle.std.proofs.Common.{sym, refl, subst}
+use Rattle.std.proofs.Common.{◌∙◌, sym, refl, subst}
+use Rattle.design.proofs.OfMarks.{all_by}
 use Rattle.store.specs.Parts.{Stored}
 use Rattle.deciding.specs.Held.{stored_of, kind_meaning}
 use Rattle.deciding.proofs.Conclusions.{concluded_stored, decided}
@@ -24,4 +25,4 @@ returns g c =
     let s = c.args.self.now in
     let s' = c.decide_by.new.store in
     decided kind_meaning s _ s.store.cells.now s'.cells.now s.store.used s'.used s.choices s.room c.args.assumptions.now c.decide_by.result
-    refl refl c.decide_by.ensures.used (sym c.if-not-all_named.ensures) (stored_of s) c.decide_by.ensures.answer
+    refl refl c.decide_by.ensures.used (sym (c.if-not-all_named.ensures ∙ all_by s.choices c.args.assumptions.now)) (stored_of s) c.decide_by.ensures.answer

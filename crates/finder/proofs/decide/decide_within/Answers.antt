@@ -1,4 +1,4 @@
-use Rattle.std.proofs.Common.{ap, arith}
+use Rattle.std.proofs.Common.{length, refl, ap, ◌∙◌, arith}
 use Rattle.scales.proofs.ByPlaces.{place_laws}
 use Rattle.judge.specs.declared.sizes.Sizes.{Sizes}
 use Rattle.plain.specs.Held.{pair_of, meaning_of}
@@ -7,29 +7,22 @@ use Rattle.finder.proofs.Booking.{design_of, small_a, small_b}
 use Rattle.finder.proofs.Deciding.{bounds_are, is_answered, found, stays}
 use Rattle.finder.proofs.decide.decide_within.Goals as goal
 
-pub assume-middle-requires : goal.assume-middle-requires
-assume-middle-requires g c =
+pub new-heap_a-requires : goal.new-heap_a-requires
+new-heap_a-requires g c =
     let s = pair_of g.A.Scale.places g.B.Scale.places in
     let j = c.args.book.now in
-    let h = g.A.Scale.laws.high in
-    record {
-      small = small_a s (meaning_of s j) (design_of s j) (g.S.Solver.meaning c.args.solver.now) (g.S.Solver.kept c.args.solver.now) c.requires.choices c.sizes-own.result.choices c.top_place.result c.prices_a.result.now
-          (ap (λ (z : Sizes). z.choices) c.sizes-own.ensures) c.top_place.ensures c.prices_a.ensures;
-      room = (omega arith, omega arith);
-    }
+    small_a s (meaning_of s j) (design_of s j) (g.S.Solver.meaning c.args.solver.now) (g.S.Solver.kept c.args.solver.now) c.requires.choices
+    c.from.result s.a.top c.prices_a.result.now (c.from.ensures ∙ ap (λ (z : Sizes). z.choices) c.sizes.ensures) refl c.prices_a.ensures
 
-pub assume-end-requires : goal.assume-end-requires
-assume-end-requires g c =
+pub new-heap_b-requires : goal.new-heap_b-requires
+new-heap_b-requires g c =
     let s = pair_of g.A.Scale.places g.B.Scale.places in
     let j = c.args.book.now in
-    let h = g.A.Scale.laws.high in
-    let h' = g.B.Scale.laws.high in
-    let l = c.assume-middle.auto in
-    record {
-      small = small_b s (meaning_of s j) (design_of s j) (g.S.Solver.meaning c.args.solver.now) (g.S.Solver.kept c.args.solver.now) c.requires.choices c.past_a.result c.top_place-2.result c.prices_b.result.now
-          c.past_a.ensures c.top_place-2.ensures c.prices_b.ensures;
-      room = (omega arith, omega arith);
-    }
+    small_b s (meaning_of s j) (design_of s j) (g.S.Solver.meaning c.args.solver.now) (g.S.Solver.kept c.args.solver.now) c.requires.choices
+    c.past_a.result s.b.top c.prices_b.result.now c.past_a.ensures refl c.prices_b.ensures
+
+pub assume-requires-2 : goal.assume-requires-2
+assume-requires-2 g c = omega (arith, g.A.Scale.laws.high, g.B.Scale.laws.high, c.assume.ensures.few, ap length c.new-marks.ensures)
 
 pub unwrap-requires : goal.unwrap-requires
 unwrap-requires g c =
@@ -40,9 +33,10 @@ unwrap-requires g c =
     let lb = place_laws b.places b.place b.at b.joined b.laws in
     let j = c.args.book.now in
     let m = meaning_of s j in
-    let e = bounds_are s m c.args.a c.args.b c.sizes-own.result.choices c.past_a.result c.top_place.result c.top_place-2.result c.prices_a.result.now c.prices_b.result.now
-    (ap (λ (z : Sizes). z.choices) c.sizes-own.ensures) c.top_place.ensures c.prices_a.ensures c.past_a.ensures c.top_place-2.ensures c.prices_b.ensures
-    c.assume-middle.result c.assume-end.result c.assume-middle.new.marks c.assume-end.new.marks c.assume-middle.ensures.writes c.assume-end.ensures.writes in
+    let e = c.as_slice.ensures.value ∙ bounds_are s m c.args.a c.args.b c.new-heap_a.result.base c.new-heap_b.result.base c.new-heap_a.result.prices.now c.new-heap_b.result.prices.now
+    (c.new-heap_a.ensures.base ∙ c.from.ensures ∙ ap (λ (z : Sizes). z.choices) c.sizes.ensures) (c.new-heap_a.ensures.prices ∙ c.prices_a.ensures)
+    (c.new-heap_b.ensures.base ∙ c.past_a.ensures) (c.new-heap_b.ensures.prices ∙ c.prices_b.ensures)
+    c.new-marks.result.items c.assume.new.marks.items c.assume-2.new.marks.items c.new-marks.ensures c.assume.ensures.items c.assume-2.ensures.items in
     is_answered g.S.Solver.meaning s la lb m (design_of s j) c.args.solver.now c.decide.new.self c.requires c.args.a c.args.b _ c.decide.result e c.decide.ensures
 
 pub returns : goal.returns
@@ -54,9 +48,10 @@ returns g c =
     let lb = place_laws b.places b.place b.at b.joined b.laws in
     let j = c.args.book.now in
     let m = meaning_of s j in
-    let e = bounds_are s m c.args.a c.args.b c.sizes-own.result.choices c.past_a.result c.top_place.result c.top_place-2.result c.prices_a.result.now c.prices_b.result.now
-    (ap (λ (z : Sizes). z.choices) c.sizes-own.ensures) c.top_place.ensures c.prices_a.ensures c.past_a.ensures c.top_place-2.ensures c.prices_b.ensures
-    c.assume-middle.result c.assume-end.result c.assume-middle.new.marks c.assume-end.new.marks c.assume-middle.ensures.writes c.assume-end.ensures.writes in
+    let e = c.as_slice.ensures.value ∙ bounds_are s m c.args.a c.args.b c.new-heap_a.result.base c.new-heap_b.result.base c.new-heap_a.result.prices.now c.new-heap_b.result.prices.now
+    (c.new-heap_a.ensures.base ∙ c.from.ensures ∙ ap (λ (z : Sizes). z.choices) c.sizes.ensures) (c.new-heap_a.ensures.prices ∙ c.prices_a.ensures)
+    (c.new-heap_b.ensures.base ∙ c.past_a.ensures) (c.new-heap_b.ensures.prices ∙ c.prices_b.ensures)
+    c.new-marks.result.items c.assume.new.marks.items c.assume-2.new.marks.items c.new-marks.ensures c.assume.ensures.items c.assume-2.ensures.items in
     record {
       answer = found g.S.Solver.meaning s la lb m (design_of s j) c.args.solver.now c.decide.new.self c.requires c.args.a c.args.b _ c.decide.result c.unwrap.result e c.unwrap.ensures c.decide.ensures;
       same = stays g.S.Solver.meaning s la lb m (design_of s j) c.args.solver.now c.decide.new.self c.requires c.args.a c.args.b _ c.decide.result c.unwrap.result e c.unwrap.ensures c.decide.ensures;

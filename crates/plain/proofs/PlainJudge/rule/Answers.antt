@@ -44,11 +44,9 @@ invariant_of-self g c =
     record {
       units = omega (arith, j.units);
       rules_fit = omega (arith, p.fits);
-      a_fits = j.a_fits;
-      b_fits = j.b_fits;
+      a_sizes = j.a_sizes;
+      b_sizes = j.b_sizes;
       kept_rules = kept_rule j.sizes.choices rs qs c.new.result ms c.push_reserved.ensures.items c.new.ensures j.kept_rules p.short p.names;
-      kept_a = j.kept_a;
-      kept_b = j.kept_b;
       rule_memory = omega (arith, j.rule_memory, c.push_reserved.ensures.capacity);
       a_memory = j.a_memory;
       b_memory = j.b_memory;

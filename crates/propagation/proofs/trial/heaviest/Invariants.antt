@@ -3,8 +3,5 @@ use Rattle.bits.specs.Bit.{bit}
 use Rattle.propagation.specs.Easing.{Inside}
 use Rattle.propagation.proofs.trial.heaviest.Given as goal
 
-abbrev pub invariant-loop-rest : goal.invariant-loop-rest
-invariant-loop-rest l = (l.best < 64) × (bit l.among l.best ≡ true) × Inside l.rest l.among
-
-abbrev pub decreases-loop-rest : goal.decreases-loop-rest
-decreases-loop-rest l = l.rest
+abbrev pub invariant-loop-k : goal.invariant-loop-k
+invariant-loop-k l = (l.best < 64) × (bit l.among l.best ≡ true) × Inside l.k-iterator.left l.among

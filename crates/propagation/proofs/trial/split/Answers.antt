@@ -10,10 +10,10 @@ without_bit-requires c = record { low = c.heaviest-k.ensures.low; inside = left_
 pub without_bit-requires-2 : goal.without_bit-requires-2
 without_bit-requires-2 c = record { low = c.heaviest-k.ensures.low; inside = right_of _ _ (sym (bit_of_and _ _ _) ∙ c.heaviest-k.ensures.inside) }
 
-pub returns-then-weights-k : goal.returns-then-weights-k
-returns-then-weights-k c =
+pub returns-then-weight : goal.returns-then-weight
+returns-then-weight c =
     turned (halves c.args.at c.heaviest-k.result c.without_bit.result c.without_bit-2.result c.without_bit.ensures.bits c.without_bit-2.ensures.bits c.without_bit.ensures.less c.without_bit-2.ensures.less)
 
-pub returns-else-weights-k : goal.returns-else-weights-k
-returns-else-weights-k c =
+pub returns-else-weight : goal.returns-else-weight
+returns-else-weight c =
     halves c.args.at c.heaviest-k.result c.without_bit.result c.without_bit-2.result c.without_bit.ensures.bits c.without_bit-2.ensures.bits c.without_bit.ensures.less c.without_bit-2.ensures.less

@@ -24,8 +24,8 @@ returns-then-here-eq0 g t c =
           c.in_ok-here.here (omega (arith, h.0.up_le)) (omega (arith, h.0.down_le)) h.1 c.if-here-eq0.true,
     )
 
-pub returns-then-eased-here : goal.returns-then-eased-here
-returns-then-eased-here g t c =
+pub returns-then-ne : goal.returns-then-ne
+returns-then-ne g t c =
     let x = g.A.Scale in
     let y = g.B.Scale in
     let s = pair_of x.places y.places in

@@ -1,27 +1,21 @@
-use Rattle.std.proofs.Common.{◌≡◌, List, [], length, ℤ, vec_items, vec_len, vec_capacity, ap, ◌∙◌, arith}
+use Rattle.std.proofs.Common.{List, [], ℤ, vec_items, vec_capacity, ap, ◌∙◌, arith}
 use Rattle.design.specs.declared.price.Price.{Price}
 use Rattle.plain.specs.Held.{pair_of}
-use Rattle.plain.proofs.Entering.{no_units, no_rules, no_rules_of, no_prices}
+use Rattle.plain.proofs.Entering.{no_units, no_rules, no_rules_of}
 use Rattle.plain.proofs.state.Plain.new.Goals as goal
 
 pub invariant_of-result : goal.invariant_of-result
 invariant_of-result g c =
     let r = c.args.room in
-    let a = ap vec_items c.new.ensures ∙ r.no_a in
-    let b = ap vec_items c.new-2.ensures ∙ r.no_b in
-    let va : vec_len c.new.result.entries ≡ length (vec_items c.new.result.entries) = c.new.result.entries.ok.0 in
-    let vb : vec_len c.new-2.result.entries ≡ length (vec_items c.new-2.result.entries) = c.new-2.result.entries.ok.0 in
     record {
       units = no_units (vec_items r.rules) r.no_rules;
       rules_fit = omega arith;
-      a_fits = omega (arith, va, ap length a);
-      b_fits = omega (arith, vb, ap length b);
+      a_sizes = c.new.ensures.sizes;
+      b_sizes = c.new-2.ensures.sizes;
       kept_rules = no_rules c.args.sizes.choices (vec_items r.rules) r.no_rules;
-      kept_a = no_prices c.args.sizes.choices (vec_items c.new.result.entries) a;
-      kept_b = no_prices c.args.sizes.choices (vec_items c.new-2.result.entries) b;
       rule_memory = r.rule_memory;
-      a_memory = omega (arith, r.a_memory, ap vec_capacity c.new.ensures);
-      b_memory = omega (arith, r.b_memory, ap vec_capacity c.new-2.ensures);
+      a_memory = omega (arith, r.a_memory, ap vec_capacity c.new.ensures.entries);
+      b_memory = omega (arith, r.b_memory, ap vec_capacity c.new-2.ensures.entries);
     }
 
 pub returns : goal.returns
@@ -30,8 +24,8 @@ returns g c =
     let n = c.args.sizes in
     let r = c.args.room in
     let rs = no_rules_of (vec_items r.rules) r.no_rules in
-    let a = ap vec_items c.new.ensures ∙ r.no_a in
-    let b = ap vec_items c.new-2.ensures ∙ r.no_b in
+    let a = ap vec_items c.new.ensures.entries ∙ r.no_a in
+    let b = ap vec_items c.new-2.ensures.entries ∙ r.no_b in
     ap (λ (x : List (List ℤ)). record { choices = n.choices; price_room = n.price_room; rule_room = n.rule_room; rules = x; prices_a = vec_items c.new.result.entries; prices_b = vec_items c.new-2.result.entries; limit_a = s.a.top; limit_b = s.b.top }) rs
     ∙ ap (λ (x : List Price). record { choices = n.choices; price_room = n.price_room; rule_room = n.rule_room; rules = []; prices_a = x; prices_b = vec_items c.new-2.result.entries; limit_a = s.a.top; limit_b = s.b.top }) a
     ∙ ap (λ (x : List Price). record { choices = n.choices; price_room = n.price_room; rule_room = n.rule_room; rules = []; prices_a = []; prices_b = x; limit_a = s.a.top; limit_b = s.b.top }) b

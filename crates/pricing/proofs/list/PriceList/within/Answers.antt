@@ -15,12 +15,12 @@ use Rattle.pricing.proofs.Bounding.{excluded, narrow_drop}
 use Rattle.pricing.proofs.list.PriceList.within.Goals as goal
 use Rattle.pricing.proofs.list.PriceList.within.Goals.{then-join_places-bound+then-not-is_sure, else-join_places-bound}
 
-pub returns-then-bound-top_place : goal.returns-then-bound-top_place
-returns-then-bound-top_place g c =
+pub returns-then-bound-TOP : goal.returns-then-bound-TOP
+returns-then-bound-TOP g c =
     let s = g.S.Scale in
     let l = place_laws s.places s.place s.at s.joined s.laws in (
       narrow_same _ c.args.at.up c.args.at.down,
-      omega (arith, total_under s.places l (sure c.args.at) (vec_items c.args.self.now.entries), c.top_place.ensures, c.if-bound-top_place.true),
+      omega (arith, total_under s.places l (sure c.args.at) (vec_items c.args.self.now.entries), g.S.Scale.topped, c.if-bound-TOP.true),
     )
 
 pub returns-then-sum-bound : goal.returns-then-sum-bound

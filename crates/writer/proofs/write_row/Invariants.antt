@@ -1,9 +1,0 @@
-use Rattle.std.proofs.Common.{◌≡◌}
-use Rattle.solver.specs.State.{with_clauses}
-use Rattle.totalizer.specs.Clauses.{pair, gather}
-use Rattle.writer.proofs.write_row.Given as goal
-
-abbrev pub invariant-loop-right : goal.invariant-loop-right
-invariant-loop-right g l =
-    let s = g.C.Scale in
-    g.S.Solver.meaning l.solver ≡ with_clauses (g.S.Solver.meaning l.initial.solver) (gather (pair s.places l.base l.prices l.node l.left) l.right)
