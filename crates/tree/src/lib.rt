@@ -3,22 +3,24 @@
 // place of the root above it is false. Its limits are the tops of its scales.
 #![tactic(auto)]
 
-ghost use Rattle.std.specs.Prelude.{◌≡◌, ℕ, ◌+◌, ◌-◌, ◌*◌, ◌≤◌, refl};
+ghost use Rattle.std.specs.Prelude.{◌≡◌, ℕ, ◌+◌, ◌-◌, ◌*◌, ◌≤◌, true, refl};
 ghost use Rattle.design.specs.Plan.{Sought};
 ghost use Rattle.judge.specs.Calls.{no_entries};
 ghost use Rattle.solver.specs.State.{cleared};
-ghost use Rattle.plain.specs.Held.{pair_of};
+ghost use Rattle.plain.specs.Held.{pair_of, meaning_of};
+ghost use Rattle.plain.specs.declared.state.Plain.{Plain};
 ghost use Rattle.totalizer.specs.Encoding.{needed_choices, needed_room, ChoicesSuffice, ClausesFit};
 ghost use Rattle.tree.specs.Sizes.{is_large, tree_checked};
 ghost use Rattle.finder.specs.Finding.{Large};
-ghost use Rattle.tree.specs.Held.{tree_meaning, tree_table};
+ghost use Rattle.tree.specs.Held.{tree_meaning, tree_table, Current, SameSize};
 
 use design::{JudgeFault, SolverFault};
-use finder::{decide_within, held_word, write_book};
+use finder::{decide_within, held_word, write_book, write_rule};
 use judge::{Judge, Sizes, check_sizes};
 use plain::{Plain, Room};
 use scales::Scale;
 use solver::Solver;
+use std::marker::Model;
 
 // M, the choices that a tree's solver needs: those of the design, and for each node that joins two
 // others one for each place above 0 of both costs. So each node and place has its own choice.
@@ -66,12 +68,33 @@ pub fn check_tree<A: Scale, B: Scale, S: Solver>(
 }
 
 // A judge by clauses. Its book, a plain judge, keeps the rules and prices, refuses what is to be
-// refused and tells costs; the solver decides. No ghost field can speak of a type parameter's
-// meaning, so nothing here says what the solver holds: each seek writes the design anew.
+// refused and tells costs; the solver decides. Where `written`, the solver's clauses are the
+// design's, so that seeks that follow each other write nothing.
 #[derive(Drop)]
-pub struct Tree<A, B, S> {
+pub struct Tree<A: Scale, B: Scale, S: Solver> {
     book: Plain<A, B>,
     solver: S,
+    written: bool,
+}
+
+impl<A: Scale, B: Scale, S: Solver> Model for Tree<A, B, S> {
+    ghost Value = { Plain A B × S };
+
+    ghost view = { λ t. (t.book, t.solver) };
+
+    ghost invariant = { λ t. t.written ≡ true → Current (pair_of A.Scale.places B.Scale.places) (meaning_of (pair_of A.Scale.places B.Scale.places) t.book) (S.Solver.meaning t.solver) };
+}
+
+// Writes the design into a solver that is large enough, where it is not written there already.
+fn refresh<A: Scale, B: Scale, S: Solver>(solver: &mut S, book: &Plain<A, B>, written: bool)
+    requires large { Large (pair_of A.Scale.places B.Scale.places) (meaning_of (pair_of A.Scale.places B.Scale.places) book.now) (S.Solver.meaning solver.old) }
+    requires current { written ≡ true → Current (pair_of A.Scale.places B.Scale.places) (meaning_of (pair_of A.Scale.places B.Scale.places) book.now) (S.Solver.meaning solver.old) }
+    ensures current { Current (pair_of A.Scale.places B.Scale.places) (meaning_of (pair_of A.Scale.places B.Scale.places) book.now) (S.Solver.meaning solver.new) }
+    ensures size { SameSize (S.Solver.meaning solver.old) (S.Solver.meaning solver.new) }
+{
+    if !written {
+        write_book(solver, book);
+    }
 }
 
 impl<A: Scale, B: Scale, S: Solver> Tree<A, B, S> {
@@ -79,24 +102,26 @@ impl<A: Scale, B: Scale, S: Solver> Tree<A, B, S> {
     // memory is there, so the making cannot fail.
     pub fn new(room: Room, sizes: Sizes, mut solver: S) -> Tree<A, B, S>
         ensures meaning { tree_meaning (pair_of A.Scale.places B.Scale.places) result ≡ no_entries sizes.choices sizes.price_room sizes.rule_room A.Scale.places.top B.Scale.places.top }
-        ensures solver { S.Solver.meaning result.solver ≡ cleared (S.Solver.meaning solver) }
+        ensures solver { S.Solver.meaning result.1 ≡ cleared (S.Solver.meaning solver) }
     {
         solver.clear();
         Tree {
             book: Plain::new(room, sizes),
             solver,
+            written: false,
         }
     }
 
     // The word of a plan within both bounds, by a solver that is large enough, and stays so: nothing
     // that is asked of it is refused.
     pub fn find(&mut self, a: u8, b: u8) -> Option<u64>
-        requires { Large (pair_of A.Scale.places B.Scale.places) (tree_meaning (pair_of A.Scale.places B.Scale.places) self.old) (S.Solver.meaning self.old.solver) }
+        requires { Large (pair_of A.Scale.places B.Scale.places) (tree_meaning (pair_of A.Scale.places B.Scale.places) self.old) (S.Solver.meaning self.old.1) }
         ensures answer { Sought (pair_of A.Scale.places B.Scale.places) (tree_meaning (pair_of A.Scale.places B.Scale.places) self.old) a b result }
-        ensures same { self.new.book ≡ self.old.book }
-        ensures size { ((S.Solver.meaning self.new.solver).choices ≡ (S.Solver.meaning self.old.solver).choices) × ((S.Solver.meaning self.new.solver).room ≡ (S.Solver.meaning self.old.solver).room) }
+        ensures same { self.new.0 ≡ self.old.0 }
+        ensures size { SameSize (S.Solver.meaning self.old.1) (S.Solver.meaning self.new.1) }
     {
-        write_book(&mut self.solver, &self.book);
+        refresh(&mut self.solver, &self.book, self.written);
+        self.written = true;
         if decide_within(&mut self.solver, &self.book, a, b) {
             Some(held_word(&self.solver, self.book.sizes().choices))
         } else {
@@ -118,16 +143,26 @@ impl<A: Scale, B: Scale, S: Solver> Judge for Tree<A, B, S> {
 
     ghost tied = { refl };
 
+    // A rule is appended to what is written.
     fn rule(&mut self, marks: &[i8]) -> Result<(), JudgeFault> {
-        self.book.rule(marks)
+        self.book.rule(marks)?;
+        if self.written {
+            write_rule(&mut self.solver, marks);
+        }
+        Ok(())
     }
 
+    // A price changes the shape, so the design is to be written anew.
     fn price_a(&mut self, mark: i8, place: u8) -> Result<(), JudgeFault> {
-        self.book.price_a(mark, place)
+        self.book.price_a(mark, place)?;
+        self.written = false;
+        Ok(())
     }
 
     fn price_b(&mut self, mark: i8, place: u8) -> Result<(), JudgeFault> {
-        self.book.price_b(mark, place)
+        self.book.price_b(mark, place)?;
+        self.written = false;
+        Ok(())
     }
 
     fn seek(&mut self, a: u8, b: u8) -> Option<u64> {
