@@ -1,13 +1,17 @@
-use Rattle.std.proofs.Common.{◌≡◌, Some, rules}
+use Rattle.std.proofs.Common.{◌≡◌, Some, rules, arith}
+use Rattle.std.proofs.lemmas.Grind.{common_steps}
 use Rattle.decode.specs.Format.{command_at}
-use Rattle.decode.proofs.OfJobs.{stands, advancing}
+use Rattle.decode.proofs.OfJobs.{advancing}
 use Rattle.decode.proofs.Spelling.{Small, spells}
 use Rattle.decode.proofs.read.decode.Goals as goal
 
-pub returns-then-at-job : goal.returns-then-at-job
-returns-then-at-job c =
-    let job = c.args.job.now in
-    let at = c.args.at in
-    let small : Small job = λ i. search rules in
-    let s : Some c.read_command.result ≡ command_at job at = search (rules, stands) in
-    record { says = s; advances = advancing job at _ s; spells = spells job at _ small s }
+pub returns-in_default-clause-advances : goal.returns-in_default-clause-advances
+returns-in_default-clause-advances c =
+    let s : Some c.map.result ≡ command_at c.args.job.now c.args.at = grind (arith, common_steps) in
+    advancing _ _ _ s
+
+pub returns-in_default-clause-spells : goal.returns-in_default-clause-spells
+returns-in_default-clause-spells c =
+    let small : Small c.args.job.now = λ i. search rules in
+    let s : Some c.map.result ≡ command_at c.args.job.now c.args.at = grind (arith, common_steps) in
+    spells _ _ _ small s
