@@ -1,12 +1,15 @@
-ghost use Rattle.std.specs.Prelude.{◌≡◌, ℕ};
-ghost use Rattle.decode.specs.Bytes.{Spells, placed};
+ghost use Rattle.std.specs.Prelude.{◌≡◌, ℕ, ◌<◌, ◌≤◌, IfOk, length, take};
+ghost use Rattle.decode.specs.Bytes.{Spells, bytes_of, placed};
 ghost use Rattle.decode.specs.Format.{first_command, command_at, Advances};
 
 use crate::command::{Command, Spoilt};
 
 // The command that bytes begin with.
 fn read_command(bytes: &[u8]) -> Result<Command, Spoilt>
-    ensures { (at : ℕ) → placed at result ≡ first_command at bytes.now }
+    ensures says { (at : ℕ) → placed at result ≡ first_command at bytes.now }
+    ensures some { IfOk result (λ c. 0 < length (bytes_of c)) }
+    ensures within { IfOk result (λ c. length (bytes_of c) ≤ length bytes.now) }
+    ensures spells { IfOk result (λ c. take (length (bytes_of c)) bytes.now ≡ bytes_of c) }
 {
     match bytes {
         [1, choices, price_room, low, high, ..] => Ok(Command::SetUp {
