@@ -136,10 +136,7 @@ fn runs_on_sums(rt: HostRuntime) -> Result<(), Fail> {
 // From (0, 200) to (200, 0).
 fn step_through_sums<J: Judge>(rt: &impl Abort, planner: &mut Planner<J>) {
     for a in 0..=200u8 {
-        assert_eq!(rt;
-            planner.step(),
-            Some((a, 200u8.saturating_sub(a)))
-        );
+        assert_eq!(rt; planner.step(), Some((a, 200u8.saturating_sub(a))));
     }
     assert_eq!(rt; planner.step(), None);
 }

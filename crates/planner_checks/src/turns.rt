@@ -120,7 +120,10 @@ pub(crate) fn read<J: Judge>(
 ) -> Result<(), Fail> {
     let owed = model.read(index);
     let found = planner.read(index);
-    assert_eq!(rt; found.map(|entry| (entry.a, entry.b)).map_err(refusal_of), owed);
+    assert_eq!(rt;
+        found.map(|entry| (entry.a, entry.b)).map_err(refusal_of),
+        owed
+    );
     if let Ok(entry) = found {
         assert!(rt; shows::<J::CostA, J::CostB>(&model.draft, entry));
     }

@@ -22,14 +22,11 @@ fn rule_of(count: u8, first: i8, second: i8) -> Call {
 }
 
 fn turns_of(heap: Global, script: &[(Call, Told)]) -> Result<Vec<Turn>, AllocError> {
-    let mut turns = Vec::new(heap);
-    for (call, _) in script {
-        turns.push(Turn {
-            call: *call,
-            outcome: Ok(Outcome::Done),
-        })?;
-    }
-    Ok(turns)
+    let turns = script.iter().map(|(call, _)| Turn {
+        call: *call,
+        outcome: Ok(Outcome::Done),
+    });
+    turns.collect(heap)
 }
 
 fn compare_turns(rt: &impl Abort, turns: &[Turn], script: &[(Call, Told)]) {
