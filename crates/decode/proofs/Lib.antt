@@ -1,4 +1,2 @@
 pub mod OfBytes
 pub mod OfMarks
-pub mod OfJobs
-pub mod Spelling

@@ -1,5 +1,5 @@
 -- The bytes of a command, as who writes a job has them.
-use Rattle.std.specs.Prelude.{◌≡◌, ℕ, ◌-◌, ◌/◌, ◌%◌, List, [], ◌∷◌, map, ℤ, pos, negsuc, Some, None, Ok, Err, Option, Result}
+use Rattle.std.specs.Prelude.{◌≡◌, ℕ, ◌+◌, ◌-◌, ◌/◌, ◌%◌, List, [], ◌∷◌, length, map, ℤ, pos, negsuc, Some, None, Ok, Err, Option, Result}
 use Rattle.std.specs.List.{between}
 use Rattle.decode.specs.declared.command.Command.{Command}
 use Rattle.decode.specs.declared.command.Command.TheVariants.{SetUp, Rule, PriceA, PriceB, Step, Restart, Read}
@@ -18,6 +18,11 @@ bytes_of (PriceB mark place) = 4 ∷ byte_of mark ∷ place ∷ []
 bytes_of Step = 5 ∷ []
 bytes_of Restart = 6 ∷ []
 bytes_of (Read index) = 7 ∷ index ∷ []
+
+-- a command that was read at an offset, with the offset that comes after its bytes
+abbrev pub placed : ℕ → Result Command Spoilt → Result (Command × ℕ) Spoilt
+placed at (Ok c) = Ok (c, at + length (bytes_of c))
+placed at (Err e) = Err e
 
 -- the bytes from the offset to the next one are those of the command that was read
 abbrev pub Spells : List ℕ → ℕ → Option (Result (Command × ℕ) Spoilt) → Type 0

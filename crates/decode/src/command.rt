@@ -1,3 +1,6 @@
+ghost use Rattle.std.specs.Prelude.{◌≡◌, length};
+ghost use Rattle.decode.specs.Bytes.{bytes_of};
+
 // One command of a job.
 #[derive(Clone, Copy, PartialEq, Eq, Debug)]
 pub enum Command {
@@ -25,6 +28,21 @@ pub enum Command {
     Read {
         index: u8,
     },
+}
+
+impl Command {
+    // How many bytes of a job it takes.
+    pub(crate) fn size(self) -> usize
+        ensures { result ≡ length (bytes_of self) }
+    {
+        match self {
+            Command::SetUp { .. } => 5,
+            Command::Rule { .. } => 10,
+            Command::PriceA { .. } | Command::PriceB { .. } => 3,
+            Command::Step | Command::Restart => 1,
+            Command::Read { .. } => 2,
+        }
+    }
 }
 
 // Why no command can be read, in the order in which it is looked for.

@@ -5,7 +5,7 @@ use Rattle.decode.specs.declared.command.Command.TheVariants as command
 use Rattle.planner.specs.declared.call.Call.{Call}
 use Rattle.planner.specs.declared.call.Call.TheVariants as call
 use Rattle.planner.specs.declared.call.Outcome.{Outcome}
-use Rattle.planner.specs.declared.call.Outcome.TheVariants as out
+use Rattle.planner.specs.declared.entry.PlannerFault.{PlannerFault}
 use Rattle.job.specs.declared.fault.JobFault.{JobFault}
 use Rattle.job.specs.declared.fault.JobFault.TheVariants.{Planner}
 
@@ -23,9 +23,6 @@ abbrev pub Reply : Type 0
 Reply = Result Outcome JobFault
 
 -- a planner's refusal is one of the job
-abbrev pub reply_of : Outcome → Reply
-reply_of (out.Refused f) = Err (Planner f)
-reply_of out.Done = Ok out.Done
-reply_of (out.Point a b) = Ok (out.Point a b)
-reply_of out.Ended = Ok out.Ended
-reply_of (out.Plan e) = Ok (out.Plan e)
+abbrev pub reply_of : Result Outcome PlannerFault → Reply
+reply_of (Ok o) = Ok o
+reply_of (Err f) = Err (Planner f)

@@ -1,5 +1,5 @@
 -- What a command does to a job's stage, and what it answers.
-use Rattle.std.specs.Prelude.{◌≡◌, ℕ, Some, None, Ok, Err, Option}
+use Rattle.std.specs.Prelude.{◌≡◌, ℕ, Some, None, Ok, Err, Option, Result}
 use Rattle.design.specs.declared.fault.JudgeFault.{JudgeFault}
 use Rattle.design.specs.Plan.{Scales, Meaning}
 use Rattle.scales.specs.declared.Scale.{Ghosts as ScaleGhosts}
@@ -10,6 +10,7 @@ use Rattle.decode.specs.declared.command.Command.TheVariants as command
 use Rattle.planner.specs.declared.call.Call.{Call}
 use Rattle.planner.specs.declared.call.Outcome.{Outcome}
 use Rattle.planner.specs.declared.call.Outcome.TheVariants as out
+use Rattle.planner.specs.declared.entry.PlannerFault.{PlannerFault}
 use Rattle.planner.specs.declared.entry.PlannerFault.TheVariants as fault
 use Rattle.planner.specs.Runs.{State, start, state_in}
 use Rattle.planner.specs.Calls.{Goes}
@@ -25,7 +26,7 @@ planner_of meaning (Working p) = Some (state_in meaning p)
 
 -- a call on the planner goes on with every run that led to it
 abbrev pub Plays : Scales → Option State → Option Call → Reply → Option State → Type 0
-Plays s x k r y = (st : State) (c : Call) → x ≡ Some st → k ≡ Some c → (o : Outcome) × (st' : State) × (y ≡ Some st') × Goes s st c o st' × (r ≡ reply_of o)
+Plays s x k r y = (st : State) (c : Call) → x ≡ Some st → k ≡ Some c → (o : Result Outcome PlannerFault) × (st' : State) × (y ≡ Some st') × Goes s st c o st' × (r ≡ reply_of o)
 
 -- a command before an accepted set-up, or a set-up after one, is refused and changes nothing
 abbrev pub KeepsOrder : {X : Type 0} → X → Option State → Option Call → Reply → X → Type 0

@@ -1,13 +1,15 @@
 ghost use Rattle.std.specs.Prelude.{◌≡◌};
-ghost use Rattle.job.specs.Performing.{call_of, reply_of};
-ghost use Rattle.job.specs.Stages.{Performs};
 ghost use Rattle.decode.specs.declared.command.Command.TheVariants.{SetUp};
+ghost use Rattle.planner.specs.Runs.{state_in};
 ghost use Rattle.job.specs.declared.stage.Stage.TheVariants.{Waiting};
+ghost use Rattle.job.specs.Performing.{call_of};
+ghost use Rattle.job.specs.Stages.{KeepsOrder, Performs, Plays};
 
 use crate::fault::JobFault;
 use crate::maker::{Maker, Unmade};
 use crate::stage::Stage;
 use decode::Command;
+use judge::Judge;
 use planner::{Call, ListRoom, Outcome, Planner, PlannerFault, RuleMarks};
 
 // The call of a planner that a command stands for; none for a set-up.
@@ -15,11 +17,7 @@ fn to_call(command: Command) -> Option<Call>
     ensures { result ≡ call_of command }
 {
     match command {
-        Command::SetUp {
-            choices: _,
-            price_room: _,
-            rule_room: _,
-        } => None,
+        Command::SetUp { .. } => None,
         Command::Rule { count, marks } => Some(Call::Rule(RuleMarks { count, marks })),
         Command::PriceA { mark, place } => Some(Call::PriceA(mark, place)),
         Command::PriceB { mark, place } => Some(Call::PriceB(mark, place)),
@@ -29,14 +27,14 @@ fn to_call(command: Command) -> Option<Call>
     }
 }
 
-// A refusal of the planner is one of the job, number and layer kept.
-fn to_reply(outcome: Outcome) -> Result<Outcome, JobFault>
-    ensures { result ≡ reply_of outcome }
+// A command after an accepted set-up. A refusal of the planner is one of the job, number and layer kept.
+fn call_planner<J: Judge>(planner: &mut Planner<J>, command: Command) -> Result<Outcome, JobFault>
+    ensures plays { Plays J.Judge.scales (Some (state_in J.Judge.meaning planner.old)) (call_of command) result (Some (state_in J.Judge.meaning planner.new)) }
+    ensures keeps_order { KeepsOrder planner.old (Some (state_in J.Judge.meaning planner.old)) (call_of command) result planner.new }
 {
-    match outcome {
-        Outcome::Refused(fault) => Err(JobFault::Planner(fault)),
-        other => Ok(other),
-    }
+    let call = to_call(command).ok_or(JobFault::Order)?;
+    let outcome = planner.call(call)?;
+    Ok(outcome)
 }
 
 // A set-up, before one was accepted.
@@ -51,12 +49,9 @@ fn set_up<M: Maker>(
 {
     match maker.make(choices, price_room, rule_room) {
         Ok(judge) => (Stage::Working(Planner::new(judge, room)), Ok(Outcome::Done)),
-        Err(unmade) => {
-            let Unmade { fault, maker } = unmade;
-            (
-                Stage::Waiting(maker, room),
-                Err(JobFault::Planner(PlannerFault::Judge(fault))),
-            )
+        Err(Unmade { fault, maker }) => {
+            let fault = PlannerFault::from(fault);
+            (Stage::Waiting(maker, room), Err(fault.into()))
         }
     }
 }
@@ -74,12 +69,9 @@ pub fn perform<M: Maker>(stage: Stage<M>, command: Command) -> (Stage<M>, Result
             } => set_up(maker, room, choices, price_room, rule_room),
             _ => (Stage::Waiting(maker, room), Err(JobFault::Order)),
         },
-        Stage::Working(mut planner) => match to_call(command) {
-            None => (Stage::Working(planner), Err(JobFault::Order)),
-            Some(call) => {
-                let outcome = planner.call(call);
-                (Stage::Working(planner), to_reply(outcome))
-            }
-        },
+        Stage::Working(mut planner) => {
+            let answer = call_planner(&mut planner, command);
+            (Stage::Working(planner), answer)
+        }
     }
 }

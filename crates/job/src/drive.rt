@@ -17,7 +17,7 @@ const LONGEST: usize = 16384;
 
 // A job that is too long is refused before it is looked at.
 pub fn check_length(length: usize) -> Result<(), JobFault>
-    ensures { result ≡ length_answer «length» }
+    ensures { result ≡ length_answer length }
 {
     if length > LONGEST {
         Err(JobFault::TooLong)
@@ -30,15 +30,8 @@ pub fn check_length(length: usize) -> Result<(), JobFault>
 // not swallowed.
 fn read_job(rt: &HostRuntime, heap: Global) -> io::Result<Vec<u8>> {
     let mut job = Vec::new(heap);
-    let mut input = rt.stdin();
-    let mut part = [0u8; 4096];
-    for _ in 0..LONGEST + 1 {
-        let count = input.read(&mut part)?;
-        job.extend_from_slice(&part[0..count])?;
-        if count == 0 || job.len() > LONGEST {
-            break;
-        }
-    }
+    let mut input = rt.stdin().take(LONGEST as u64 + 1);
+    input.read_to_end(&mut job)?;
     Ok(job)
 }
 
@@ -53,7 +46,7 @@ where
         match found {
             Err(spoilt) => return rt.println(Line {
                 offset,
-                answer: Err(JobFault::of_spoilt(spoilt)),
+                answer: Err(spoilt.into()),
             }),
             Ok((command, next)) => {
                 let (now, answer) = perform(stage, command);

@@ -1,6 +1,5 @@
 ghost use Rattle.std.specs.Prelude.{Some};
-ghost use Rattle.std.specs.Fmt.{WritesOnOk};
-ghost use Rattle.job.specs.Lines.{line_text, refusal_text};
+ghost use Rattle.job.specs.Lines.{line_text};
 
 use crate::fault::JobFault;
 use crate::word::Word;
@@ -8,7 +7,7 @@ use planner::Outcome;
 use std::fmt;
 
 // A printed line: the offset of a command and its answer.
-#[derive(Clone, Copy)]
+#[derive(Clone, Copy, PartialEq, Eq, Debug)]
 pub struct Line {
     pub offset: usize,
     pub answer: Result<Outcome, JobFault>,
@@ -27,20 +26,7 @@ impl fmt::Display for Line {
                 let (a, b, word) = (entry.a, entry.b, Word(entry.word));
                 write!(f, "{offset} plan {a} {b} {word}")
             }
-            Ok(Outcome::Refused(fault)) => show_refusal(f, offset, JobFault::Planner(fault)),
-            Err(fault) => show_refusal(f, offset, fault),
+            Err(fault) => write!(f, "{offset} {fault}"),
         }
     }
-}
-
-fn show_refusal<W: fmt::Write>(
-    f: &mut fmt::Formatter<W>,
-    offset: usize,
-    fault: JobFault,
-) -> fmt::Result
-    ensures { WritesOnOk W.write_str_gives f.old result (refusal_text «offset» fault) f.new }
-{
-    let number = fault.number();
-    let layer = fault.layer().name();
-    write!(f, "{offset} refused {number} {layer}")
 }

@@ -5,7 +5,7 @@ use checks::sweep::Sweep;
 use judge::{Judge, check_sizes};
 use layers::{Limit, Swap, swap_twice};
 use plain::{Plain, Room};
-use planner::{Answer, ListRoom, Planner};
+use planner::{ListRoom, Planner};
 use scales::{Hours, Needles, Scale};
 use std::alloc::Global;
 use std::process::Abort;
@@ -46,16 +46,11 @@ fn expect_points<J: Judge + Drop>(
     points: &[(u8, u8)],
 ) -> Result<(), Fail> {
     let mut planner = Planner::new(judge, ListRoom::new(heap)?);
-    for (a, b) in points {
-        match planner.step() {
-            Answer::Point(x, y) => assert_eq!(rt; (x, y), (*a, *b)),
-            Answer::Ended => return Err(Fail::new("a point is missing")),
-        }
+    for point in points {
+        assert_eq!(rt; planner.step(), Some(*point));
     }
-    match planner.step() {
-        Answer::Point(_, _) => Err(Fail::new("a point is listed that is none")),
-        Answer::Ended => Ok(()),
-    }
+    assert_eq!(rt; planner.step(), None);
+    Ok(())
 }
 
 // A pile holds against the sweep in all that it answers, refusals too, and in what it lists.

@@ -18,7 +18,7 @@ fn prints(rt: &impl Abort, heap: Global, job: &[u8], lines: &[&str]) -> Result<(
         match decode(job, offset) {
             None => return Err(Fail::new("the job is at its end")),
             Some(Err(spoilt)) => {
-                let answer = Err(JobFault::of_spoilt(spoilt));
+                let answer = Err(JobFault::from(spoilt));
                 assert_eq!(rt; Line { offset, answer }.to_string(heap)?.as_str(), *line);
             }
             Some(Ok((command, next))) => {

@@ -1,18 +1,20 @@
 -- A call by its state before and after, and what that says of every run.
-use Rattle.std.proofs.Common.{◌≡◌, ℕ, zero, suc, ◌+◌, ◌<◌, ◌≤◌, Bool, true, false, List, [], ◌∷◌, ◌++◌, length, get_or, Some, None, Ok, Err, Result, sym, refl, ap, ◌∙◌, subst, arith}
+use Rattle.std.proofs.Common.{◌≡◌, ℕ, zero, suc, ◌+◌, ◌<◌, Bool, true, false, List, [], ◌∷◌, ◌++◌, ℤ, Some, None, Result, sym, refl, ap, ◌∙◌, subst, arith}
+use Rattle.std.specs.List.{slice_get}
+use Rattle.std.specs.Option.{ok_or}
 use Rattle.scales.proofs.ByPlaces.{PlaceLaws}
 use Rattle.design.specs.declared.fault.JudgeFault.{JudgeFault}
 use Rattle.design.specs.Mark.{holds}
 use Rattle.design.specs.Plan.{Scales, Meaning, Plan, cost_b}
 use Rattle.design.proofs.Totals.{total_under}
-use Rattle.judge.specs.Calls.{Entered}
+use Rattle.judge.specs.Calls.{rule_answer, price_a_answer, price_b_answer, with_rule, with_price_a, with_price_b, price_of}
 use Rattle.planner.specs.declared.entry.Entry.{Entry}
 use Rattle.planner.specs.declared.entry.PlannerFault.{PlannerFault}
-use Rattle.planner.specs.declared.entry.PlannerFault.TheVariants.{ListingOpen, NoEntry}
+use Rattle.planner.specs.declared.entry.PlannerFault.TheVariants.{NoEntry}
 use Rattle.planner.specs.Order.{last_b}
 use Rattle.planner.specs.Points.{Listing}
 use Rattle.planner.specs.Search.{Least}
-use Rattle.planner.specs.Runs.{State, Event, Reply, stepped, read_at, read_reply, after, entered, entry_reply, state_of, state_at, Answered, Lawful, Extends, raised}
+use Rattle.planner.specs.Runs.{State, Event, Reply, ruled, priced_a, priced_b, stepped, read_at, read_reply, after, entered, entry_reply, state_of, state_at, Answered, Lawful, Extends}
 use Rattle.published.specs.Reading.{ReadsAs}
 use Rattle.planner.proofs.Fronts.{all_listed}
 use Rattle.planner.proofs.Lists.{Small, all_covered, new_uncovered, listing_more}
@@ -53,44 +55,35 @@ extend_none s m n es o t r none p =
     (ap (λ (k : Meaning). state_at k es true) (sym p))
     (λ l. (all_listed s m r es l (all_covered s m es (small_by s m t) l none), l))
 
--- a call that enters something, of one of the three kinds
+-- a call that enters something, of one of the three kinds: while a listing is open it is refused, and
+-- else nothing is listed
 module _ (s : Scales) (event : Reply → Event) (next : Meaning → Meaning) (reply : Meaning → Result (Unit {0}) JudgeFault)
     (goes : (x : State) (q : Reply) → after x (event q) ≡ state_at (entered x.meaning (next x.meaning) q) x.entries x.listing)
     (asks : (x : State) (q : Reply) → q ≡ entry_reply x.listing (reply x.meaning) → Answered s x (event q)) where
-  -- while a listing is open it is refused, and nothing changes
-  pub extend_shut : (m : Meaning) (es : List Entry) (o : Bool) → o ≡ true → Extends s (state_at m es o) (event (Err ListingOpen)) (state_at m es o)
-  extend_shut m es o q =
-      extend_by s (state_at m es o) (event (Err ListingOpen)) (state_at m es o) (goes (state_at m es o) (Err ListingOpen))
-      (λ l. (
-        asks (state_at m es o) (Err ListingOpen) (sym (ap (λ (k : Bool). entry_reply k (reply m)) q)),
-        subst (λ (z : State). Listing s z.meaning z.entries) (sym (goes (state_at m es o) (Err ListingOpen))) l,
-      ))
+  stays_right : (m : Meaning) (es : List Entry) (o : Bool) (q : Reply) → (o ≡ false → es ≡ []) → q ≡ entry_reply o (reply m) → Listing s m es → Listing s (entered m (next m) q) es
+  stays_right m es true q none e l = rw e l
+  stays_right m es false q none e l = rw (none refl) (listing_none s (entered m (next m) q))
 
-  -- else it goes to the judge; nothing is listed then
-  pub extend_entered : {J : Type 0} (meaning : J → Meaning) (j k : J) (es : List Entry) (o : Bool) (f : Result (Unit {0}) JudgeFault) → o ≡ false → es ≡ []
-      → f ≡ reply (meaning j) → Entered meaning j (next (meaning j)) f k → Extends s (state_at (meaning j) es o) (event (raised f)) (state_at (meaning k) es o)
-  extend_entered meaning j k es o f q none e h =
-      let x = state_at (meaning j) es o in
-      let p : after x (event (raised f)) ≡ state_at (meaning k) es o = goes x (raised f) ∙ ap (λ (n : Meaning). state_at n es o) (meant f h) in
-      extend_by s x (event (raised f)) (state_at (meaning k) es o) p
-      (λ l. (
-        asks x (raised f) (ap raised e ∙ sym (ap (λ (b : Bool). entry_reply b (reply (meaning j))) q)),
-        subst (λ (z : State). Listing s z.meaning z.entries) (sym p) (subst (λ (xs : List Entry). Listing s (meaning k) xs) (sym none) (listing_none s (meaning k))),
-      ))
-    where
-      meant : (f : Result (Unit {0}) JudgeFault) → Entered meaning j (next (meaning j)) f k → entered (meaning j) (next (meaning j)) (raised f) ≡ meaning k
-      meant (Ok u) h = sym h
-      meant (Err x) h = ap meaning (sym h)
+  extend_entered : (m n : Meaning) (es : List Entry) (o : Bool) (q : Reply) → (o ≡ false → es ≡ []) → q ≡ entry_reply o (reply m) → n ≡ entered m (next m) q → Extends s (state_at m es o) (event q) (state_at n es o)
+  extend_entered m n es o q none e f =
+      let g = goes (state_at m es o) q in
+      extend_by s (state_at m es o) (event q) (state_at n es o) (g ∙ ap (λ (k : Meaning). state_at k es o) (sym f))
+      (λ l. (asks (state_at m es o) q e, rw g (stays_right m es o q none e l)))
 
-pub reply_some : (es : List Entry) (i : ℕ) (e : Entry) → i < length es → e ≡ get_or es i e → Ok e ≡ read_reply es i
-reply_some [] i e h q = absurd (omega arith)
-reply_some (x ∷ es) zero e h q = ap (λ (k : Entry). Ok k) q
-reply_some (x ∷ es) (suc i) e h q = reply_some es i e (omega arith) q
+module _ (s : Scales) (m n : Meaning) (es : List Entry) (o : Bool) (q : Reply) (none : o ≡ false → es ≡ []) where
+  pub extend_ruled : (r : List ℤ) → q ≡ entry_reply o (rule_answer m r) → n ≡ entered m (with_rule m r) q → Extends s (state_at m es o) (ruled r q) (state_at n es o)
+  extend_ruled r = extend_entered s (ruled r) (λ k. with_rule k r) (λ k. rule_answer k r) (λ _ _. refl) (λ _ _ e. e) m n es o q none
 
-pub reply_none : (es : List Entry) (i : ℕ) → length es ≤ i → Err NoEntry ≡ read_reply es i
-reply_none [] i h = refl
-reply_none (x ∷ es) zero h = absurd (omega arith)
-reply_none (x ∷ es) (suc i) h = reply_none es i (omega arith)
+  pub extend_priced_a : (k : ℤ) (p : ℕ) → q ≡ entry_reply o (price_a_answer s m k p) → n ≡ entered m (with_price_a m (price_of k p)) q → Extends s (state_at m es o) (priced_a k p q) (state_at n es o)
+  extend_priced_a k p = extend_entered s (priced_a k p) (λ x. with_price_a x (price_of k p)) (λ x. price_a_answer s x k p) (λ _ _. refl) (λ _ _ e. e) m n es o q none
 
-pub extend_read : (s : Scales) (x : State) (i : ℕ) (r : Result Entry PlannerFault) → r ≡ read_reply x.entries i → Extends s x (read_at i r) x
-extend_read s x i r e = extend_by s x (read_at i r) x refl (λ l. (e, l))
+  pub extend_priced_b : (k : ℤ) (p : ℕ) → q ≡ entry_reply o (price_b_answer s m k p) → n ≡ entered m (with_price_b m (price_of k p)) q → Extends s (state_at m es o) (priced_b k p q) (state_at n es o)
+  extend_priced_b k p = extend_entered s (priced_b k p) (λ x. with_price_b x (price_of k p)) (λ x. price_b_answer s x k p) (λ _ _. refl) (λ _ _ e. e) m n es o q none
+
+reply_is : (es : List Entry) (i : ℕ) → ok_or (slice_get es i) NoEntry ≡ read_reply es i
+reply_is [] i = refl
+reply_is (e ∷ es) zero = refl
+reply_is (e ∷ es) (suc i) = reply_is es i
+
+pub extend_read : (s : Scales) (m : Meaning) (es : List Entry) (o : Bool) (i : ℕ) (r : Result Entry PlannerFault) → r ≡ ok_or (slice_get es i) NoEntry → Extends s (state_at m es o) (read_at i r) (state_at m es o)
+extend_read s m es o i r e = extend_by s (state_at m es o) (read_at i r) (state_at m es o) refl (λ l. (e ∙ reply_is es i, l))

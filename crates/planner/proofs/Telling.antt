@@ -1,47 +1,57 @@
 -- Calls as events, and runs of turns.
-use Rattle.std.proofs.Common.{◌≡◌, ℕ, zero, suc, ◌+◌, ◌<◌, List, [], ◌∷◌, ◌++◌, length, get_or, take, set, ℤ, Some, None, Ok, Err, sym, ap, subst, arith, w8, SFits, to_z, of_z}
-use Rattle.std.proofs.lemmas.Int.{to_z-of_z}
+use Rattle.std.proofs.Common.{◌≡◌, ℕ, zero, suc, ◌+◌, ◌<◌, List, [], ◌∷◌, ◌++◌, length, get_or, take, set, ℤ, Some, None, Ok, Err, Option, Result, sym, ap, ◌∙◌, subst, arith}
 use Rattle.std.proofs.lemmas.List.{take_more_set}
 use Rattle.design.specs.Plan.{Scales, Meaning}
-use Rattle.planner.specs.declared.entry.Answer.TheVariants.{Point, Ended}
+use Rattle.planner.specs.declared.entry.Entry.{Entry}
+use Rattle.planner.specs.declared.entry.PlannerFault.{PlannerFault}
 use Rattle.planner.specs.declared.call.RuleMarks.{RuleMarks}
 use Rattle.planner.specs.declared.call.Call.{Call}
-use Rattle.planner.specs.declared.call.Call.TheVariants.{Rule, PriceA, PriceB, Step}
+use Rattle.planner.specs.declared.call.Call.TheVariants.{Rule, PriceA, PriceB, Step, Restart, Read}
 use Rattle.planner.specs.declared.call.Outcome.{Outcome}
 use Rattle.planner.specs.declared.call.Outcome.TheVariants as out
 use Rattle.planner.specs.declared.call.Turn.{Turn}
-use Rattle.planner.specs.Runs.{State, Reply, ruled, priced_a, priced_b, stepped, start, Extends, Steps}
-use Rattle.planner.specs.Calls.{marks_entered, entered_outcome, Is, is_rule, is_no_rule, is_price_a, is_no_price_a, is_price_b, is_no_price_b, is_point, is_ended, Goes, told_none, told_more, Whole, calls_of}
+use Rattle.planner.specs.Runs.{State, Event, Reply, ruled, priced_a, priced_b, stepped, restarted, read_at, start, Extends, Steps}
+use Rattle.planner.specs.Calls.{marks_entered, Is, is_rule, is_no_rule, is_price_a, is_no_price_a, is_price_b, is_no_price_b, is_point, is_ended, is_restart, is_plan, is_no_plan, Goes, told_none, told_more, Whole, calls_of}
 
-pub goes_at : (s : Scales) (x y : State) (c d : Call) (o p : Outcome) → c ≡ d → o ≡ p → Goes s x d p y → Goes s x c o y
-goes_at s x y c d o p q r t = subst (λ (k : Call). Goes s x k o y) (sym q) (subst (λ (k : Outcome). Goes s x d k y) (sym r) t)
+-- the outcome of a call that enters something
+abbrev pub done : Reply → Result Outcome PlannerFault
+done (Ok u) = Ok out.Done
+done (Err f) = Err f
 
-pub goes_rule : (s : Scales) (x y : State) (m : RuleMarks) (r : Reply) → Extends s x (ruled (marks_entered m) r) y → Goes s x (Rule m) (entered_outcome r) y
-goes_rule s x y m (Ok tt) e = (ruled (marks_entered m) (Ok tt), is_rule m, e)
-goes_rule s x y m (Err f) e = (ruled (marks_entered m) (Err f), is_no_rule m f, e)
+abbrev pub stepping : Option (ℕ × ℕ) → Result Outcome PlannerFault
+stepping (Some p) = Ok (out.Point p.0 p.1)
+stepping None = Ok out.Ended
 
-pub goes_price_a : (s : Scales) (x y : State) (k : ℤ) (p : ℕ) (r : Reply) → Extends s x (priced_a k p r) y → Goes s x (PriceA k p) (entered_outcome r) y
-goes_price_a s x y k p (Ok tt) e = (priced_a k p (Ok tt), is_price_a k p, e)
-goes_price_a s x y k p (Err f) e = (priced_a k p (Err f), is_no_price_a k p f, e)
+abbrev pub planned : Result Entry PlannerFault → Result Outcome PlannerFault
+planned (Ok n) = Ok (out.Plan n)
+planned (Err f) = Err f
 
-pub goes_price_b : (s : Scales) (x y : State) (k : ℤ) (p : ℕ) (r : Reply) → Extends s x (priced_b k p r) y → Goes s x (PriceB k p) (entered_outcome r) y
-goes_price_b s x y k p (Ok tt) e = (priced_b k p (Ok tt), is_price_b k p, e)
-goes_price_b s x y k p (Err f) e = (priced_b k p (Err f), is_no_price_b k p f, e)
+module _ (s : Scales) (x y : State) (c : Call) (o : Result Outcome PlannerFault) where
+  goes_by : (d : Call) (p : Result Outcome PlannerFault) (e : Event) → c ≡ d → o ≡ p → Is d p e → Extends s x e y → Goes s x c o y
+  goes_by d p e q r i t = (e, rw (q, r) i, t)
 
--- a call that enters a price, whose mark went through a signed byte
-pub enters_price_b : (s : Scales) (x y : State) (c : Call) (o : Outcome) (k : ℤ) (p : ℕ) (r : Reply) → SFits w8 k → c ≡ PriceB k p → o ≡ entered_outcome r → Extends s x (priced_b (to_z w8 (of_z w8 k)) p r) y → Goes s x c o y
-enters_price_b s x y c o k p r f i q e =
-    goes_at s x y c (PriceB k p) o (entered_outcome r) i q
-    (goes_price_b s x y k p r (subst (λ (m : ℤ). Extends s x (priced_b m p r) y) (to_z-of_z w8 k f) e))
+  pub goes_rule : (m : RuleMarks) (r : Reply) → c ≡ Rule m → o ≡ done r → Extends s x (ruled (marks_entered m) r) y → Goes s x c o y
+  goes_rule m (Ok tt) q e t = goes_by _ _ _ q e (is_rule m) t
+  goes_rule m (Err f) q e t = goes_by _ _ _ q e (is_no_rule m f) t
 
-pub goes_point : (s : Scales) (x : State) (a b : ℕ) (y : State) → Steps s x (Point a b) y → Goes s x Step (out.Point a b) y
-goes_point s x a b y (Some e, shown, law) =
-    (stepped (Some e), subst (λ (k : ℕ). Is Step (out.Point k b) (stepped (Some e))) shown.0 (subst (λ (k : ℕ). Is Step (out.Point e.a k) (stepped (Some e))) shown.1 (is_point e)), law)
-goes_point s x a b y (None, shown, law) = absurd shown
+  pub goes_price_a : (k : ℤ) (p : ℕ) (r : Reply) → c ≡ PriceA k p → o ≡ done r → Extends s x (priced_a k p r) y → Goes s x c o y
+  goes_price_a k p (Ok tt) q e t = goes_by _ _ _ q e (is_price_a k p) t
+  goes_price_a k p (Err f) q e t = goes_by _ _ _ q e (is_no_price_a k p f) t
 
-pub goes_ended : (s : Scales) (x y : State) → Steps s x Ended y → Goes s x Step out.Ended y
-goes_ended s x y (Some e, shown, law) = absurd shown
-goes_ended s x y (None, shown, law) = (stepped None, is_ended, law)
+  pub goes_price_b : (k : ℤ) (p : ℕ) (r : Reply) → c ≡ PriceB k p → o ≡ done r → Extends s x (priced_b k p r) y → Goes s x c o y
+  goes_price_b k p (Ok tt) q e t = goes_by _ _ _ q e (is_price_b k p) t
+  goes_price_b k p (Err f) q e t = goes_by _ _ _ q e (is_no_price_b k p f) t
+
+  pub goes_step : (r : Option (ℕ × ℕ)) → c ≡ Step → o ≡ stepping r → Steps s x r y → Goes s x c o y
+  goes_step r q e (Some n, i, t) = goes_by Step (Ok (out.Point n.a n.b)) (stepped (Some n)) q (e ∙ ap stepping i) (is_point n) t
+  goes_step r q e (None, i, t) = goes_by Step (Ok out.Ended) (stepped None) q (e ∙ ap stepping i) is_ended t
+
+  pub goes_restart : c ≡ Restart → o ≡ Ok out.Done → Extends s x restarted y → Goes s x c o y
+  goes_restart q e t = goes_by _ _ _ q e is_restart t
+
+  pub goes_read : (i : ℕ) (r : Result Entry PlannerFault) → c ≡ Read i → o ≡ planned r → Extends s x (read_at i r) y → Goes s x c o y
+  goes_read i (Ok n) q e t = goes_by _ _ _ q e (is_plan i n) t
+  goes_read i (Err f) q e t = goes_by _ _ _ q e (is_no_plan i f) t
 
 pub whole_none : (s : Scales) (m : Meaning) (x : State) → x ≡ start m → Whole s m [] x
 whole_none s m x e = record { events = []; told = told_none; lawful = tt; leads = sym e }

@@ -7,8 +7,6 @@ use Rattle.scales.specs.declared.Scale.{Ghosts as ScaleGhosts}
 use Rattle.judge.specs.declared.Judge.{Ghosts}
 use Rattle.judge.specs.Calls.{rule_answer, price_a_answer, price_b_answer, with_rule, with_price_a, with_price_b, price_of}
 use Rattle.planner.specs.declared.entry.Entry.{Entry}
-use Rattle.planner.specs.declared.entry.Answer.{Answer}
-use Rattle.planner.specs.declared.entry.Answer.TheVariants.{Point, Ended}
 use Rattle.planner.specs.declared.entry.PlannerFault.{PlannerFault}
 use Rattle.planner.specs.declared.entry.PlannerFault.TheVariants.{ListingOpen, NoEntry, Judge}
 use Rattle.planner.specs.declared.state.Planner.{Planner}
@@ -92,15 +90,13 @@ Lawful s m (e ∷ h) = Answered s (state_of m h) e × Listing s (state_of m (e �
 abbrev pub Extends : Scales → State → Event → State → Type 0
 Extends s x e y = (m : Meaning) (h : List Event) → state_of m h ≡ x → Lawful s m h → (state_of m (e ∷ h) ≡ y) × Lawful s m (e ∷ h)
 
--- a step's answer is the point of the entry that it listed, or "ended" where it listed none
-abbrev pub Shown : Answer → Option Entry → Type 0
-Shown (Point a b) (Some e) = (e.a ≡ a) × (e.b ≡ b)
-Shown (Point a b) None = ⊥
-Shown Ended (Some e) = ⊥
-Shown Ended None = Unit {0}
+-- a step's answer is the point of the entry that it listed, or none where it listed none
+abbrev pub shown : Option Entry → Option (ℕ × ℕ)
+shown (Some e) = Some (e.a, e.b)
+shown None = None
 
-abbrev pub Steps : Scales → State → Answer → State → Type 0
-Steps s x r y = (o : Option Entry) × Shown r o × Extends s x (stepped o) y
+abbrev pub Steps : Scales → State → Option (ℕ × ℕ) → State → Type 0
+Steps s x r y = (o : Option Entry) × (r ≡ shown o) × Extends s x (stepped o) y
 
 -- a planner by its judge's meaning, its list and whether a listing is open
 abbrev pub state_in : {J P Q V W : Type 0} {j : Ghosts J P Q V W} {p : ScaleGhosts P V} {q : ScaleGhosts Q W} → (J → Meaning) → Planner J P Q V W j p q → State

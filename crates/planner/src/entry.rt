@@ -4,22 +4,15 @@ ghost use Rattle.planner.specs.declared.entry.PlannerFault.TheVariants.{Judge};
 use design::JudgeFault;
 
 // A listed point with the plan that shows it.
-#[derive(Clone, Copy)]
+#[derive(Clone, Copy, PartialEq, Eq, Debug)]
 pub struct Entry {
     pub a: u8,
     pub b: u8,
     pub word: u64,
 }
 
-// What a step answers.
-#[derive(Clone, Copy)]
-pub enum Answer {
-    Point(u8, u8),
-    Ended,
-}
-
 // Why a planner refuses.
-#[derive(Clone, Copy)]
+#[derive(Clone, Copy, PartialEq, Eq, Debug)]
 pub enum PlannerFault {
     // A rule or a price comes while a listing is open.
     ListingOpen,

@@ -37,32 +37,24 @@ fn narrow<J: Judge>(judge: &mut J, search: Search) -> Search
         let middle = least_a + (best.a - least_a) / 2;
         match judge.seek(middle, most) {
             Some(word) => Search {
-                most,
                 best: entry_of(judge, word),
-                least_a,
-                least_b,
+                ..search
             },
             None => Search {
-                most,
-                best,
                 least_a: middle + 1,
-                least_b,
+                ..search
             },
         }
     } else {
         let middle = least_b + (best.b - least_b) / 2;
         match judge.seek(best.a, middle) {
             Some(word) => Search {
-                most,
                 best: entry_of(judge, word),
-                least_a,
-                least_b,
+                ..search
             },
             None => Search {
-                most,
-                best,
-                least_a,
                 least_b: middle + 1,
+                ..search
             },
         }
     }

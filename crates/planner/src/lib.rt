@@ -9,14 +9,14 @@ mod runs;
 mod search;
 mod state;
 
-ghost use Rattle.std.specs.Prelude.{◌≡◌};
+ghost use Rattle.std.specs.Prelude.{◌≡◌, cond};
 ghost use Rattle.planner.specs.Faults.{planner_number, planner_layer};
 ghost use Rattle.planner.specs.Order.{last_b};
 ghost use Rattle.planner.specs.Runs.{Steps, Extends, state_in, start, ruled, priced_a, priced_b, restarted, read_at};
 
 pub use call::{Call, Outcome, RuleMarks, Turn};
 use design::Layer;
-pub use entry::{Answer, Entry, PlannerFault};
+pub use entry::{Entry, PlannerFault};
 use halve::find_least;
 use judge::Judge;
 pub use runs::run;
@@ -38,8 +38,7 @@ impl PlannerFault {
         ensures { result ≡ planner_layer self }
     {
         match self {
-            PlannerFault::ListingOpen => Layer::Planner,
-            PlannerFault::NoEntry => Layer::Planner,
+            PlannerFault::ListingOpen | PlannerFault::NoEntry => Layer::Planner,
             PlannerFault::Judge(fault) => fault.layer(),
         }
     }
@@ -49,16 +48,6 @@ impl ListRoom {
     pub fn new(heap: Global) -> Result<ListRoom, AllocError> {
         let entries = Vec::with_capacity(heap, 201)?;
         Ok(ListRoom { entries })
-    }
-}
-
-// The last listed cost B, or 201 where nothing is listed: what is listed next is below it.
-fn next_below(entries: &[Entry]) -> u8
-    ensures { result ≡ last_b 201 entries.now }
-{
-    match entries {
-        [] => 201,
-        [.., last] => last.b,
     }
 }
 
@@ -75,12 +64,20 @@ impl<J: Judge> Planner<J> {
         }
     }
 
-    pub fn rule(&mut self, marks: &[i8]) -> Result<(), PlannerFault>
-        ensures run { Extends J.Judge.scales (state_in J.Judge.meaning self.old) (ruled marks.now result) (state_in J.Judge.meaning self.new) }
+    // A listing that is open refuses rules and prices.
+    fn check_shut(&self) -> Result<(), PlannerFault>
+        ensures { result ≡ cond self.now.listing (Err PlannerFault.ListingOpen) (Ok tt) }
     {
         if self.listing {
             return Err(PlannerFault::ListingOpen);
         }
+        Ok(())
+    }
+
+    pub fn rule(&mut self, marks: &[i8]) -> Result<(), PlannerFault>
+        ensures run { Extends J.Judge.scales (state_in J.Judge.meaning self.old) (ruled marks.now result) (state_in J.Judge.meaning self.new) }
+    {
+        self.check_shut()?;
         self.judge.rule(marks)?;
         Ok(())
     }
@@ -88,9 +85,7 @@ impl<J: Judge> Planner<J> {
     pub fn price_a(&mut self, mark: i8, place: u8) -> Result<(), PlannerFault>
         ensures run { Extends J.Judge.scales (state_in J.Judge.meaning self.old) (priced_a mark place result) (state_in J.Judge.meaning self.new) }
     {
-        if self.listing {
-            return Err(PlannerFault::ListingOpen);
-        }
+        self.check_shut()?;
         self.judge.price_a(mark, place)?;
         Ok(())
     }
@@ -98,29 +93,30 @@ impl<J: Judge> Planner<J> {
     pub fn price_b(&mut self, mark: i8, place: u8) -> Result<(), PlannerFault>
         ensures run { Extends J.Judge.scales (state_in J.Judge.meaning self.old) (priced_b mark place result) (state_in J.Judge.meaning self.new) }
     {
-        if self.listing {
-            return Err(PlannerFault::ListingOpen);
-        }
+        self.check_shut()?;
         self.judge.price_b(mark, place)?;
         Ok(())
     }
 
-    // Lists the next point, or says that there is none.
-    pub fn step(&mut self) -> Answer
+    // The last listed cost B, or 201 where nothing is listed: what is listed next is below it.
+    fn next_below(&self) -> u8
+        ensures { result ≡ last_b 201 self.now.entries.items }
+    {
+        self.entries.last().map_or(201, |last| last.b)
+    }
+
+    // Lists the next point, if there is one.
+    pub fn step(&mut self) -> Option<(u8, u8)>
         ensures run { Steps J.Judge.scales (state_in J.Judge.meaning self.old) result (state_in J.Judge.meaning self.new) }
     {
+        let below = self.next_below();
         self.listing = true;
-        let below = next_below(&self.entries);
         if below == 0 {
-            return Answer::Ended;
+            return None;
         }
-        match find_least(&mut self.judge, below - 1) {
-            Some(entry) => {
-                self.entries.push_reserved(entry);
-                Answer::Point(entry.a, entry.b)
-            }
-            None => Answer::Ended,
-        }
+        let entry = find_least(&mut self.judge, below - 1)?;
+        self.entries.push_reserved(entry);
+        Some((entry.a, entry.b))
     }
 
     // Empties the list and closes the listing.
@@ -135,11 +131,7 @@ impl<J: Judge> Planner<J> {
     pub fn read(&self, index: u8) -> Result<Entry, PlannerFault>
         ensures run { Extends J.Judge.scales (state_in J.Judge.meaning self.now) (read_at index result) (state_in J.Judge.meaning self.now) }
     {
-        let at = index as usize;
-        if at < self.entries.len() {
-            Ok(self.entries[at])
-        } else {
-            Err(PlannerFault::NoEntry)
-        }
+        let entry = self.entries.get(usize::from(index)).copied();
+        entry.ok_or(PlannerFault::NoEntry)
     }
 }

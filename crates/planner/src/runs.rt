@@ -1,20 +1,11 @@
 ghost use Rattle.std.specs.Prelude.{◌≡◌};
 ghost use Rattle.planner.specs.Runs.{Extends, ruled, state_in};
-ghost use Rattle.planner.specs.Calls.{Goes, Whole, calls_of, marks_entered, entered_outcome};
+ghost use Rattle.planner.specs.Calls.{Goes, Whole, calls_of, marks_entered};
 
 use crate::call::{Call, Outcome, RuleMarks, Turn};
-use crate::entry::{Answer, PlannerFault};
+use crate::entry::PlannerFault;
 use crate::state::{ListRoom, Planner};
 use judge::Judge;
-
-fn outcome_of(answer: Result<(), PlannerFault>) -> Outcome
-    ensures { result ≡ entered_outcome answer }
-{
-    match answer {
-        Ok(()) => Outcome::Done,
-        Err(fault) => Outcome::Refused(fault),
-    }
-}
 
 impl<J: Judge> Planner<J> {
     // A rule by its count and eight marks.
@@ -28,25 +19,34 @@ impl<J: Judge> Planner<J> {
     }
 
     // Any call.
-    pub fn call(&mut self, call: Call) -> Outcome
+    pub fn call(&mut self, call: Call) -> Result<Outcome, PlannerFault>
         ensures { Goes J.Judge.scales (state_in J.Judge.meaning self.old) call result (state_in J.Judge.meaning self.new) }
     {
         match call {
-            Call::Rule(rule) => outcome_of(self.rule_of(rule)),
-            Call::PriceA(mark, place) => outcome_of(self.price_a(mark, place)),
-            Call::PriceB(mark, place) => outcome_of(self.price_b(mark, place)),
+            Call::Rule(rule) => {
+                self.rule_of(rule)?;
+                Ok(Outcome::Done)
+            }
+            Call::PriceA(mark, place) => {
+                self.price_a(mark, place)?;
+                Ok(Outcome::Done)
+            }
+            Call::PriceB(mark, place) => {
+                self.price_b(mark, place)?;
+                Ok(Outcome::Done)
+            }
             Call::Step => match self.step() {
-                Answer::Point(a, b) => Outcome::Point(a, b),
-                Answer::Ended => Outcome::Ended,
+                Some((a, b)) => Ok(Outcome::Point(a, b)),
+                None => Ok(Outcome::Ended),
             },
             Call::Restart => {
                 self.restart();
-                Outcome::Done
+                Ok(Outcome::Done)
             }
-            Call::Read(index) => match self.read(index) {
-                Ok(entry) => Outcome::Plan(entry),
-                Err(fault) => Outcome::Refused(fault),
-            },
+            Call::Read(index) => {
+                let entry = self.read(index)?;
+                Ok(Outcome::Plan(entry))
+            }
         }
     }
 }
@@ -57,12 +57,8 @@ pub fn run<J: Judge>(judge: J, room: ListRoom, turns: &mut [Turn]) -> Planner<J>
     ensures calls { calls_of turns.new ≡ calls_of turns.old }
 {
     let mut planner = Planner::new(judge, room);
-    for i in 0..turns.len() {
-        let call = turns[i].call;
-        turns[i] = Turn {
-            call,
-            outcome: planner.call(call),
-        };
+    for turn in turns {
+        turn.outcome = planner.call(turn.call);
     }
     planner
 }

@@ -1,30 +1,29 @@
 use crate::front::front_of;
 use checks::draft::Draft;
+use design::Layer;
 use planner::PlannerFault;
 use scales::Scale;
 use std::alloc::{AllocError, Global};
 
-// What a planner answers, short of a point or an entry.
+// How a planner refuses.
 #[derive(Clone, Copy, PartialEq, Eq, Debug)]
-pub(crate) enum Verdict {
-    Accepted,
+pub(crate) enum Refusal {
     ListingOpen,
     NoEntry,
     // The judge's refusal, by its number.
-    Refused(u8),
+    Judge(u8),
     // A fault that is not of the judge's layer.
     Stray,
 }
 
-pub(crate) fn verdict_of(answer: Result<(), PlannerFault>) -> Verdict {
-    match answer {
-        Ok(()) => Verdict::Accepted,
-        Err(PlannerFault::ListingOpen) => Verdict::ListingOpen,
-        Err(PlannerFault::NoEntry) => Verdict::NoEntry,
-        Err(PlannerFault::Judge(fault)) if fault.layer().name() == "judge" => {
-            Verdict::Refused(fault.number())
+pub(crate) fn refusal_of(fault: PlannerFault) -> Refusal {
+    match fault {
+        PlannerFault::ListingOpen => Refusal::ListingOpen,
+        PlannerFault::NoEntry => Refusal::NoEntry,
+        PlannerFault::Judge(fault) if fault.layer() == Layer::Judge => {
+            Refusal::Judge(fault.number())
         }
-        Err(PlannerFault::Judge(_)) => Verdict::Stray,
+        PlannerFault::Judge(_) => Refusal::Stray,
     }
 }
 
@@ -58,13 +57,11 @@ impl Tally {
         }
     }
 
-    fn note(&mut self, verdict: Verdict) {
-        match verdict {
-            Verdict::Accepted => self.accepted = self.accepted.saturating_add(1),
-            Verdict::ListingOpen => self.while_open = self.while_open.saturating_add(1),
-            Verdict::NoEntry => self.missing = self.missing.saturating_add(1),
-            Verdict::Refused(_) => self.refused = self.refused.saturating_add(1),
-            Verdict::Stray => {}
+    fn note_entry(&mut self, owed: Result<(), Refusal>) {
+        match owed {
+            Ok(()) => self.accepted = self.accepted.saturating_add(1),
+            Err(Refusal::ListingOpen) => self.while_open = self.while_open.saturating_add(1),
+            Err(_) => self.refused = self.refused.saturating_add(1),
         }
     }
 }
@@ -94,13 +91,13 @@ impl Model {
     }
 
     // What a rule or a price is owed that the judge would refuse so, or not.
-    pub(crate) fn owed(&mut self, refusal: Option<u8>) -> Verdict {
+    pub(crate) fn owed(&mut self, refusal: Option<u8>) -> Result<(), Refusal> {
         let owed = match refusal {
-            _ if self.is_open => Verdict::ListingOpen,
-            Some(number) => Verdict::Refused(number),
-            None => Verdict::Accepted,
+            _ if self.is_open => Err(Refusal::ListingOpen),
+            Some(number) => Err(Refusal::Judge(number)),
+            None => Ok(()),
         };
-        self.tally.note(owed);
+        self.tally.note_entry(owed);
         owed
     }
 
@@ -113,7 +110,7 @@ impl Model {
             self.front = front_of::<A, B>(heap, &self.draft)?;
             self.is_open = true;
         }
-        let Some(next) = point_at(self.front.as_slice(), self.listed.len()) else {
+        let Some(next) = self.front.get(self.listed.len()).copied() else {
             self.tally.ended = self.tally.ended.saturating_add(1);
             return Ok(None);
         };
@@ -129,21 +126,14 @@ impl Model {
         self.tally.restarts = self.tally.restarts.saturating_add(1);
     }
 
-    // The point of the entry at an index, if there is one.
-    pub(crate) fn read(&mut self, index: u8) -> Option<(u8, u8)> {
-        let owed = point_at(self.listed.as_slice(), usize::from(index));
-        if owed.is_some() {
+    // The point of the entry at an index.
+    pub(crate) fn read(&mut self, index: u8) -> Result<(u8, u8), Refusal> {
+        let point = self.listed.get(usize::from(index)).copied();
+        if point.is_some() {
             self.tally.found = self.tally.found.saturating_add(1);
         } else {
-            self.tally.note(Verdict::NoEntry);
+            self.tally.missing = self.tally.missing.saturating_add(1);
         }
-        owed
-    }
-}
-
-fn point_at(points: &[(u8, u8)], index: usize) -> Option<(u8, u8)> {
-    match points.get(index) {
-        Some(point) => Some(*point),
-        None => None,
+        point.ok_or(Refusal::NoEntry)
     }
 }

@@ -1,6 +1,6 @@
 use crate::model::{Model, Tally};
 use crate::tests::made;
-use crate::turns::{enter_prices_a, enter_prices_b, enter_rule, list_all, point_of, restart};
+use crate::turns::{enter_prices_a, enter_prices_b, enter_rule, list_all, restart};
 use checks::draft::Draft;
 use judge::Judge;
 use planner::Planner;
@@ -24,10 +24,10 @@ fn enter_rules<J: Judge>(
 
 fn expect_points<J: Judge>(rt: &impl Abort, planner: &mut Planner<J>, points: &[(u8, u8)]) {
     for point in points {
-        assert_eq!(rt; point_of(planner.step()), Some(*point));
+        assert_eq!(rt; planner.step(), Some(*point));
     }
-    assert_eq!(rt; point_of(planner.step()), None);
-    assert_eq!(rt; point_of(planner.step()), None);
+    assert_eq!(rt; planner.step(), None);
+    assert_eq!(rt; planner.step(), None);
 }
 
 // The points that a design lists once it is priced, written out, and then once more beside the sweep.

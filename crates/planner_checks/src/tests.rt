@@ -1,6 +1,6 @@
 use crate::draws::{call_some, enter_some};
 use crate::model::{Model, Tally};
-use crate::turns::{enter_prices_a, enter_prices_b, list_all, point_of, read_all, restart};
+use crate::turns::{enter_prices_a, enter_prices_b, list_all, read_all, restart};
 use checks::draft::Draft;
 use checks::random::Random;
 use judge::{Judge, check_sizes};
@@ -136,12 +136,9 @@ fn runs_on_sums(rt: HostRuntime) -> Result<(), Fail> {
 // From (0, 200) to (200, 0).
 fn step_through_sums<J: Judge>(rt: &impl Abort, planner: &mut Planner<J>) {
     for a in 0..=200u8 {
-        assert_eq!(rt;
-            point_of(planner.step()),
-            Some((a, 200u8.saturating_sub(a)))
-        );
+        assert_eq!(rt; planner.step(), Some((a, 200u8.saturating_sub(a))));
     }
-    assert_eq!(rt; point_of(planner.step()), None);
+    assert_eq!(rt; planner.step(), None);
 }
 
 // Each of eight choices costs its weight in A if it is made, and in B if it is not; the weights sum to

@@ -1,9 +1,9 @@
-use crate::model::{Model, Verdict, verdict_of};
+use crate::model::{Model, refusal_of};
 use checks::draft::{Draft, price_refusal};
 use checks::sweep::{cost, is_setting, meets_all};
 use design::Price;
 use judge::Judge;
-use planner::{Answer, Entry, Planner};
+use planner::{Entry, Planner};
 use scales::Scale;
 use std::alloc::Global;
 use std::process::Abort;
@@ -19,8 +19,8 @@ pub(crate) fn enter_rule<J: Judge>(
 ) -> Result<(), Fail> {
     let refusal = model.draft.rule_refusal(marks);
     let owed = model.owed(refusal);
-    assert_eq!(rt; verdict_of(planner.rule(marks)), owed);
-    if owed == Verdict::Accepted {
+    assert_eq!(rt; planner.rule(marks).map_err(refusal_of), owed);
+    if owed.is_ok() {
         model.draft.add_rule(heap, marks)?;
     }
     Ok(())
@@ -36,8 +36,9 @@ pub(crate) fn enter_price_a<J: Judge>(
     let top = J::CostA::TOP;
     let refusal = price_refusal(choices, room, top, model.draft.prices_a.as_slice(), price);
     let owed = model.owed(refusal);
-    assert_eq!(rt; verdict_of(planner.price_a(price.mark, price.place)), owed);
-    if owed == Verdict::Accepted {
+    let entered = planner.price_a(price.mark, price.place);
+    assert_eq!(rt; entered.map_err(refusal_of), owed);
+    if owed.is_ok() {
         model.draft.prices_a.push(price)?;
     }
     Ok(())
@@ -53,8 +54,9 @@ pub(crate) fn enter_price_b<J: Judge>(
     let top = J::CostB::TOP;
     let refusal = price_refusal(choices, room, top, model.draft.prices_b.as_slice(), price);
     let owed = model.owed(refusal);
-    assert_eq!(rt; verdict_of(planner.price_b(price.mark, price.place)), owed);
-    if owed == Verdict::Accepted {
+    let entered = planner.price_b(price.mark, price.place);
+    assert_eq!(rt; entered.map_err(refusal_of), owed);
+    if owed.is_ok() {
         model.draft.prices_b.push(price)?;
     }
     Ok(())
@@ -86,13 +88,6 @@ pub(crate) fn enter_prices_b<J: Judge>(
     Ok(())
 }
 
-pub(crate) fn point_of(answer: Answer) -> Option<(u8, u8)> {
-    match answer {
-        Answer::Point(a, b) => Some((a, b)),
-        Answer::Ended => None,
-    }
-}
-
 pub(crate) fn step<J: Judge>(
     rt: &impl Abort,
     planner: &mut Planner<J>,
@@ -100,7 +95,7 @@ pub(crate) fn step<J: Judge>(
     heap: Global,
 ) -> Result<(), Fail> {
     let owed = model.step::<J::CostA, J::CostB>(heap)?;
-    assert_eq!(rt; point_of(planner.step()), owed);
+    assert_eq!(rt; planner.step(), owed);
     Ok(())
 }
 
@@ -124,18 +119,15 @@ pub(crate) fn read<J: Judge>(
     index: u8,
 ) -> Result<(), Fail> {
     let owed = model.read(index);
-    match planner.read(index) {
-        Ok(entry) => {
-            assert_eq!(rt; Some((entry.a, entry.b)), owed);
-            assert!(rt; shows::<J::CostA, J::CostB>(&model.draft, entry));
-            Ok(())
-        }
-        Err(fault) => {
-            assert_eq!(rt; verdict_of(Err(fault)), Verdict::NoEntry);
-            assert_eq!(rt; None, owed);
-            Ok(())
-        }
+    let found = planner.read(index);
+    assert_eq!(rt;
+        found.map(|entry| (entry.a, entry.b)).map_err(refusal_of),
+        owed
+    );
+    if let Ok(entry) = found {
+        assert!(rt; shows::<J::CostA, J::CostB>(&model.draft, entry));
     }
+    Ok(())
 }
 
 pub(crate) fn read_all<J: Judge>(

@@ -7,7 +7,7 @@ use deciding::{Kind, Search};
 use judge::{Judge, Sizes, check_sizes};
 use layers::{Limit, Swap};
 use plain::Room;
-use planner::{Answer, ListRoom, Planner};
+use planner::{ListRoom, Planner};
 use scales::{Hours, Needles, Scale};
 use settling::BySettling;
 use solver::Solver;
@@ -28,16 +28,11 @@ fn expect_front<J: Judge + Drop>(
 ) -> Result<(), Fail> {
     let front = Sweep::of::<J::CostA, J::CostB>(heap, draft)?.front(heap)?;
     let mut planner = Planner::new(judge, ListRoom::new(heap)?);
-    for (a, b) in front.as_slice() {
-        match planner.step() {
-            Answer::Point(x, y) => assert_eq!(rt; (x, y), (*a, *b)),
-            Answer::Ended => return Err(Fail::new("a point is missing")),
-        }
+    for point in front.as_slice() {
+        assert_eq!(rt; planner.step(), Some(*point));
     }
-    match planner.step() {
-        Answer::Point(_, _) => Err(Fail::new("a point is listed that is none")),
-        Answer::Ended => Ok(()),
-    }
+    assert_eq!(rt; planner.step(), None);
+    Ok(())
 }
 
 // A judge at every pair of bounds, first empty and then filled, and its whole list.

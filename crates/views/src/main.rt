@@ -65,7 +65,7 @@ fn edging(heap: Global) -> anyhow::Result<Plain<Hours, Needles>> {
 fn steps(heap: Global) -> Result<Vec<Turn>, AllocError> {
     let step = Turn {
         call: Call::Step,
-        outcome: Outcome::Done,
+        outcome: Ok(Outcome::Done),
     };
     vec![in heap; step; 202]
 }
@@ -73,7 +73,7 @@ fn steps(heap: Global) -> Result<Vec<Turn>, AllocError> {
 fn show(rt: &HostRuntime, turns: &[Turn]) -> io::Result<()> {
     for turn in turns {
         match turn.outcome {
-            Outcome::Point(a, b) => println!(rt; "  point {a} {b}")?,
+            Ok(Outcome::Point(a, b)) => println!(rt; "  point {a} {b}")?,
             _ => return println!(rt; "  ended"),
         }
     }

@@ -1,16 +1,15 @@
-use Rattle.std.proofs.Common.{vec_items, arith}
-use Rattle.planner.specs.Runs.{state_in}
-use Rattle.planner.proofs.Extend.{extend_read, reply_some, reply_none}
+use Rattle.std.proofs.Common.{◌≡◌, ℕ, List, length, Some, None, Option, Bor, sym, refl}
+use Rattle.std.specs.List.{slice_get}
+use Rattle.std.specs.Option.{option_copied}
+use Rattle.std.specs.Slice.{IsItemAt}
+use Rattle.std.proofs.lemmas.Option.{slice_get_past, slice_get_read}
+use Rattle.planner.specs.declared.entry.Entry.{Entry}
+use Rattle.planner.proofs.Extend.{extend_read}
 use Rattle.planner.proofs.state.Planner.read.Goals as goal
 
-pub returns-then-at-len : goal.returns-then-at-len
-returns-then-at-len g c =
-    let j = g.J.Judge in
-    let p = c.args.self.now in
-    record { run = extend_read j.scales (state_in j.meaning p) c.args.index _ (reply_some (vec_items p.entries) c.args.index _ (omega (arith, c.if-at-len.true, c.len.ensures, p.entries.ok.0)) c.index.ensures) }
+copied_is : (es : List Entry) (i : ℕ) (o : Option (Bor Entry)) → IsItemAt es i o → option_copied o ≡ slice_get es i
+copied_is es i None h = sym (slice_get_past es i h.3)
+copied_is es i (Some x) h = sym (slice_get_read es (length es) i x.now refl h.3.0 h.1)
 
-pub returns-else-at-len : goal.returns-else-at-len
-returns-else-at-len g c =
-    let j = g.J.Judge in
-    let p = c.args.self.now in
-    record { run = extend_read j.scales (state_in j.meaning p) c.args.index _ (reply_none (vec_items p.entries) c.args.index (omega (arith, c.if-at-len.false, c.len.ensures, p.entries.ok.0))) }
+pub returns : goal.returns
+returns g c = let e = copied_is _ _ _ c.get.ensures.lookup in record { run = extend_read _ _ _ _ _ _ (cc) }
