@@ -45,14 +45,9 @@ impl<A: Scale, B: Scale> Plain<A, B> {
         if self.is_hopeless(a, b, here) {
             return None;
         }
-        let (ups_a, downs_a) = self.prices_a.priced_choices();
-        let (ups_b, downs_b) = self.prices_b.priced_choices();
-        let eased = ease(
-            self.rules.as_slice(),
-            ups_a | ups_b,
-            downs_a | downs_b,
-            here,
-        );
+        let priced_a = self.prices_a.priced_choices();
+        let priced = priced_a.with(self.prices_b.priced_choices());
+        let eased = ease(self.rules.as_slice(), priced, here);
         if eased != here {
             return self.search(a, b, eased);
         }

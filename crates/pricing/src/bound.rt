@@ -7,7 +7,7 @@ ghost use Rattle.pricing.specs.Bounds.{sure, sure_total, Excluded, Bounded, Leas
 use crate::list::PriceList;
 use bits::{has_bit, members_of, without};
 use design::choice_bit;
-use propagation::{Partial, Rule, down_word, up_word};
+use propagation::{Partial, Rule, Sides};
 use scales::{Scale, join_places};
 
 // Whether a mark is true whatever the open choices are.
@@ -24,9 +24,10 @@ fn exclude(at: Partial, mark: i8) -> Partial
     requires { named 64 mark ≡ true }
     ensures { Excluded at mark result }
 {
+    let sides = Sides::of(mark);
     Partial {
-        up: without(at.up, up_word(mark)),
-        down: without(at.down, down_word(mark)),
+        up: without(at.up, sides.ups),
+        down: without(at.down, sides.downs),
     }
 }
 
@@ -85,15 +86,12 @@ impl<S: Scale> PriceList<S> {
         Some(here)
     }
 
-    // No mark of two words, to take and to leave, costs less.
-    fn cheapest(&self, takes: u64, leaves: u64) -> u8
-        ensures { Cheap self.now.entries.items takes leaves result }
+    // No mark of these choices costs less.
+    fn cheapest(&self, sides: Sides) -> u8
+        ensures { Cheap self.now.entries.items sides.ups sides.downs result }
     {
-        least_at(
-            &self.leaving,
-            leaves,
-            least_at(&self.taking, takes, u8::MAX),
-        )
+        let taking = least_at(&self.taking, sides.ups, u8::MAX);
+        least_at(&self.leaving, sides.downs, taking)
     }
 
     // What every setting that agrees and meets the rules costs at least: the sure marks, joined with
@@ -104,13 +102,12 @@ impl<S: Scale> PriceList<S> {
         let mut sum = self.sure_cost(at);
         let mut seen = (at.up & at.down) ^ u64::MAX;
         for rule in rules {
-            let takes = rule.ups & at.up;
-            let leaves = rule.downs & at.down;
-            if (takes | leaves) & seen == 0 {
-                let price = self.cheapest(takes, leaves);
+            let open = rule.sides.possible(at);
+            if (open.ups | open.downs) & seen == 0 {
+                let price = self.cheapest(open);
                 if price > 0 {
                     sum = join_places::<S>(sum, price);
-                    seen |= takes | leaves;
+                    seen |= open.ups | open.downs;
                 }
             }
         }

@@ -6,25 +6,24 @@ ghost use Rattle.pricing.specs.Tables.{marks_in, take_mark, leave_mark, Tabled};
 
 use design::Price;
 use judge::Sizes;
+use propagation::Sides;
 use std::marker::PhantomData;
 
 // The prices of one cost of scale S, in order of entry, and beside them what the search asks of
-// them: the price of taking and of leaving each choice (0 for none), and the choices that have one,
-// as words.
+// them: the price of taking and of leaving each choice (0 for none), and the choices that have one.
 #[derive(Drop)]
 pub struct PriceList<S> {
     pub(crate) sizes: Sizes,
     pub(crate) entries: Vec<Price>,
     pub(crate) taking: [u8; 64],
     pub(crate) leaving: [u8; 64],
-    pub(crate) ups: u64,
-    pub(crate) downs: u64,
+    pub(crate) sides: Sides,
     pub(crate) scale: PhantomData<S>,
     ghost fits: { vec_len entries ≤ sizes.price_room },
     ghost kept: { prices_kept sizes.choices entries.items ≡ true },
     ghost named: { all_are_named 64 (marks_in entries.items) ≡ true },
     ghost take_table: { Tabled take_mark taking entries.items },
     ghost leave_table: { Tabled leave_mark leaving entries.items },
-    ghost up_word: { ups ≡ ups_of (marks_in entries.items) },
-    ghost down_word: { downs ≡ downs_of (marks_in entries.items) },
+    ghost up_word: { sides.ups ≡ ups_of (marks_in entries.items) },
+    ghost down_word: { sides.downs ≡ downs_of (marks_in entries.items) },
 }

@@ -8,7 +8,7 @@ ghost use Rattle.pricing.specs.Entries.{Fresh, Longer};
 use crate::list::PriceList;
 use design::{JudgeFault, Price, choice_bit};
 use judge::{Sizes, check_price};
-use propagation::{down_word, up_word};
+use propagation::Sides;
 use scales::Scale;
 use std::marker::PhantomData;
 
@@ -31,8 +31,7 @@ impl<S> PriceList<S> {
             entries,
             taking: [0; 64],
             leaving: [0; 64],
-            ups: 0,
-            downs: 0,
+            sides: Sides::none(),
             scale: PhantomData,
         }
     }
@@ -54,16 +53,15 @@ impl<S> PriceList<S> {
         let (take, leave) = sides(mark, place);
         self.taking[k] = self.taking[k].max(take);
         self.leaving[k] = self.leaving[k].max(leave);
-        self.ups |= up_word(mark);
-        self.downs |= down_word(mark);
+        self.sides = self.sides.with(Sides::of(mark));
         self.entries.push_reserved(Price { mark, place });
     }
 
     // The choices that cost something to take, and those that cost something to leave.
-    pub fn priced_choices(&self) -> (u64, u64)
-        ensures { result ≡ (ups_of (marks_in self.now.entries.items), downs_of (marks_in self.now.entries.items)) }
+    pub fn priced_choices(&self) -> Sides
+        ensures { result ≡ record { ups = ups_of (marks_in self.now.entries.items); downs = downs_of (marks_in self.now.entries.items) } }
     {
-        (self.ups, self.downs)
+        self.sides
     }
 }
 

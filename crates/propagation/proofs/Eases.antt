@@ -36,8 +36,8 @@ none_left v x r b z k u d = never (sym (b k ∙ both _ _ u (not_from_false _ d))
 pub surely_met : (r : Rule) (p : Partial) → SureMark r p → SurelyMet r p
 surely_met r p s w a = (s.0, s.1, by s.2 (tell (bit w s.0)))
   where
-    by : ((bit r.ups s.0 ≡ true) × (bit p.down s.0 ≡ false)) ⊎ ((bit r.downs s.0 ≡ true) × (bit p.up s.0 ≡ false))
-        → (bit w s.0 ≡ true) ⊎ (bit w s.0 ≡ false) → cond (bit w s.0) (bit r.ups s.0) (bit r.downs s.0) ≡ true
+    by : ((bit r.sides.ups s.0 ≡ true) × (bit p.down s.0 ≡ false)) ⊎ ((bit r.sides.downs s.0 ≡ true) × (bit p.up s.0 ≡ false))
+        → (bit w s.0 ≡ true) ⊎ (bit w s.0 ≡ false) → cond (bit w s.0) (bit r.sides.ups s.0) (bit r.sides.downs s.0) ≡ true
     by (inl t) (inl e) = rw e t.0
     by (inl t) (inr e) = absurd (never (sym (left_in a s.1 e) ∙ t.1))
     by (inr t) (inl e) = absurd (never (sym (taken_in a s.1 e) ∙ t.1))
@@ -58,11 +58,11 @@ unfolding Asked
 wider [] p u d x y a = tt
 wider (r ∷ rs) p u d x y a = (by a.0, wider rs p u d x y a.1)
   where
-    by : SurelyMet r p ⊎ (Inside r.ups u × Inside r.downs d) → SurelyMet r p ⊎ (Inside r.ups (bit_or u x) × Inside r.downs (bit_or d y))
+    by : SurelyMet r p ⊎ (Inside r.sides.ups u × Inside r.sides.downs d) → SurelyMet r p ⊎ (Inside r.sides.ups (bit_or u x) × Inside r.sides.downs (bit_or d y))
     by (inl s) = inl s
-    by (inr i) = inr (inside_or_left r.ups u x i.0, inside_or_left r.downs d y i.1)
+    by (inr i) = inr (inside_or_left r.sides.ups u x i.0, inside_or_left r.sides.downs d y i.1)
 
-asked_more : (rs : List Rule) (r : Rule) (p : Partial) (u d : ℕ) → Asked rs p u d → SurelyMet r p ⊎ (Inside r.ups u × Inside r.downs d) → Asked (rs ++ r ∷ []) p u d
+asked_more : (rs : List Rule) (r : Rule) (p : Partial) (u d : ℕ) → Asked rs p u d → SurelyMet r p ⊎ (Inside r.sides.ups u × Inside r.sides.downs d) → Asked (rs ++ r ∷ []) p u d
 unfolding Asked
 asked_more [] r p u d a s = (s, tt)
 asked_more (q ∷ rs) r p u d a s = (a.0, asked_more rs r p u d a.1 s)
@@ -73,10 +73,10 @@ next_of rs i r e h = take_more rs i r h ∙ ap (λ (x : Rule). take i rs ++ x �
 pub asked_met : (rs : List Rule) (i : ℕ) (r : Rule) (p : Partial) (u d : ℕ) → r ≡ get_or rs i r → i < length rs → Asked (take i rs) p u d → SurelyMet r p → Asked (take (i + 1) rs) p u d
 asked_met rs i r p u d e h a s = subst (λ (x : List Rule). Asked x p u d) (sym (next_of rs i r e h)) (asked_more (take i rs) r p u d a (inl s))
 
-pub asked_open : (rs : List Rule) (i : ℕ) (r : Rule) (p : Partial) (u d : ℕ) → r ≡ get_or rs i r → i < length rs → Asked (take i rs) p u d → Asked (take (i + 1) rs) p (bit_or u r.ups) (bit_or d r.downs)
+pub asked_open : (rs : List Rule) (i : ℕ) (r : Rule) (p : Partial) (u d : ℕ) → r ≡ get_or rs i r → i < length rs → Asked (take i rs) p u d → Asked (take (i + 1) rs) p (bit_or u r.sides.ups) (bit_or d r.sides.downs)
 asked_open rs i r p u d e h a =
-    subst (λ (x : List Rule). Asked x p (bit_or u r.ups) (bit_or d r.downs)) (sym (next_of rs i r e h))
-    (asked_more (take i rs) r p (bit_or u r.ups) (bit_or d r.downs) (wider (take i rs) p u d r.ups r.downs a) (inr (inside_or_right u r.ups, inside_or_right d r.downs)))
+    subst (λ (x : List Rule). Asked x p (bit_or u r.sides.ups) (bit_or d r.sides.downs)) (sym (next_of rs i r e h))
+    (asked_more (take i rs) r p (bit_or u r.sides.ups) (bit_or d r.sides.downs) (wider (take i rs) p u d r.sides.ups r.sides.downs a) (inr (inside_or_right u r.sides.ups, inside_or_right d r.sides.downs)))
 
 -- a bit that is in neither of two words
 pub or_off : (a b k : ℕ) → bit (bit_or a b) k ≡ false → (bit a k ≡ false) × (bit b k ≡ false)
@@ -159,14 +159,14 @@ module _ (rs : List Rule) (ups downs : ℕ) (p q : Partial) (tu td leave add lx 
       by k i (inr f) = rw f (left_of _ _ (sym (down_is k) ∙ left_in a i f))
 
   -- the moved setting has the same true mark of a rule that asks for it
-  hit_moved : (r : Rule) (w : ℕ) → Inside r.ups tu → Inside r.downs td → Hit r.ups r.downs w → Hit r.ups r.downs (moved w leave add)
+  hit_moved : (r : Rule) (w : ℕ) → Inside r.sides.ups tu → Inside r.sides.downs td → Hit r.sides.ups r.sides.downs w → Hit r.sides.ups r.sides.downs (moved w leave add)
   hit_moved r w iu id h = (h.0, h.1, by (tell (bit w h.0)))
     where
-      by : (bit w h.0 ≡ true) ⊎ (bit w h.0 ≡ false) → cond (bit (moved w leave add) h.0) (bit r.ups h.0) (bit r.downs h.0) ≡ true
+      by : (bit w h.0 ≡ true) ⊎ (bit w h.0 ≡ false) → cond (bit (moved w leave add) h.0) (bit r.sides.ups h.0) (bit r.sides.downs h.0) ≡ true
       by (inl e) = rw stays u
         where
-          u : bit r.ups h.0 ≡ true
-          u = subst (λ (x : Bool). cond x (bit r.ups h.0) (bit r.downs h.0) ≡ true) e h.2
+          u : bit r.sides.ups h.0 ≡ true
+          u = subst (λ (x : Bool). cond x (bit r.sides.ups h.0) (bit r.sides.downs h.0) ≡ true) e h.2
 
           off : (bit leave h.0 ≡ true) ⊎ (bit leave h.0 ≡ false) → bit leave h.0 ≡ false
           off (inl t) = absurd (never (sym (iu h.0 u) ∙ (leave_in h.0 t).2))
@@ -176,8 +176,8 @@ module _ (rs : List Rule) (ups downs : ℕ) (p q : Partial) (tu td leave add lx 
           stays = moved_bit w leave add h.0 ∙ or_left _ _ (both _ _ e (not_from_false _ (off (tell (bit leave h.0)))))
       by (inr e) = rw stays d
         where
-          d : bit r.downs h.0 ≡ true
-          d = subst (λ (x : Bool). cond x (bit r.ups h.0) (bit r.downs h.0) ≡ true) e h.2
+          d : bit r.sides.downs h.0 ≡ true
+          d = subst (λ (x : Bool). cond x (bit r.sides.ups h.0) (bit r.sides.downs h.0) ≡ true) e h.2
 
           off : (bit add h.0 ≡ true) ⊎ (bit add h.0 ≡ false) → bit add h.0 ≡ false
           off (inl t) = absurd (never (sym (id h.0 d) ∙ (add_in h.0 t).2))
@@ -193,7 +193,7 @@ module _ (rs : List Rule) (ups downs : ℕ) (p q : Partial) (tu td leave add lx 
       v : ℕ
       v = moved w leave add
 
-      one : (r : Rule) → SurelyMet r p ⊎ (Inside r.ups tu × Inside r.downs td) → Hit r.ups r.downs w → Hit r.ups r.downs (moved w leave add)
+      one : (r : Rule) → SurelyMet r p ⊎ (Inside r.sides.ups tu × Inside r.sides.downs td) → Hit r.sides.ups r.sides.downs w → Hit r.sides.ups r.sides.downs (moved w leave add)
       one r (inl s) h = s (moved w leave add) (agrees_wider (moved w leave add) (agrees_moved w a))
       one r (inr i) h = hit_moved r w i.0 i.1 h
 

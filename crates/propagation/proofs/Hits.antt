@@ -106,15 +106,15 @@ none_hit w h = by (tell (bit w h.0))
     by (inl e) = never (sym (seen_taken 0 0 w h.0 e h.2) ∙ zero_bit h.0)
     by (inr e) = never (sym (seen_left 0 0 w h.0 e h.2) ∙ zero_bit h.0)
 
-pub rule_hit : (r : Rule) (w : ℕ) → meets w (marks_of r) ≡ true → Hit r.ups r.downs w
+pub rule_hit : (r : Rule) (w : ℕ) → meets w (marks_of r) ≡ true → Hit r.sides.ups r.sides.downs w
 unfolding ups_of downs_of
 rule_hit r w t =
     let h : Hit (ups_of (marks_of r)) (downs_of (marks_of r)) w = hit_from 0 0 w (marks_of r) r.named (inr t) in
-    subst (λ (x : ℕ). Hit x r.downs w) (sym r.up_word) (subst (λ (x : ℕ). Hit (ups_of (marks_of r)) x w) (sym r.down_word) h)
+    subst (λ (x : ℕ). Hit x r.sides.downs w) (sym r.up_word) (subst (λ (x : ℕ). Hit (ups_of (marks_of r)) x w) (sym r.down_word) h)
 
-pub hit_rule : (r : Rule) (w : ℕ) → Hit r.ups r.downs w → meets w (marks_of r) ≡ true
+pub hit_rule : (r : Rule) (w : ℕ) → Hit r.sides.ups r.sides.downs w → meets w (marks_of r) ≡ true
 unfolding ups_of downs_of
-hit_rule r w h = by (from_hit 0 0 w (marks_of r) (subst (λ (x : ℕ). Hit x (downs_of (marks_of r)) w) r.up_word (subst (λ (x : ℕ). Hit r.ups x w) r.down_word h)))
+hit_rule r w h = by (from_hit 0 0 w (marks_of r) (subst (λ (x : ℕ). Hit x (downs_of (marks_of r)) w) r.up_word (subst (λ (x : ℕ). Hit r.sides.ups x w) r.down_word h)))
   where
     by : (Hit 0 0 w) ⊎ (meets w (marks_of r) ≡ true) → meets w (marks_of r) ≡ true
     by (inl e) = absurd (none_hit w e)
@@ -127,10 +127,10 @@ met_at (r ∷ rs) w zero d m h = left_of _ _ m
 met_at (r ∷ rs) w (suc i) d m h = met_at rs w i d (right_of (meets w (marks_of r)) _ m) (omega arith)
 
 -- the rule at hand
-pub item_hit : (rs : List Rule) (i : ℕ) (r : Rule) → r ≡ get_or rs i r → i < length rs → (w : ℕ) → Met rs w → Hit r.ups r.downs w
+pub item_hit : (rs : List Rule) (i : ℕ) (r : Rule) → r ≡ get_or rs i r → i < length rs → (w : ℕ) → Met rs w → Hit r.sides.ups r.sides.downs w
 item_hit rs i r e h w m = rule_hit r w (ap (λ (x : Rule). meets w (marks_of x)) e ∙ met_at rs w i r m h)
 
-alive_more : (rs : List Rule) (r : Rule) (up down : ℕ) → AllAlive rs up down → Alive r.ups r.downs up down → AllAlive (rs ++ r ∷ []) up down
+alive_more : (rs : List Rule) (r : Rule) (up down : ℕ) → AllAlive rs up down → Alive r.sides.ups r.sides.downs up down → AllAlive (rs ++ r ∷ []) up down
 unfolding AllAlive
 alive_more [] r up down a b = (b, tt)
 alive_more (q ∷ rs) r up down a b = (a.0, alive_more rs r up down a.1 b)
@@ -139,24 +139,24 @@ pub alive_none : (up down : ℕ) → AllAlive [] up down
 unfolding AllAlive
 alive_none up down = tt
 
-pub alive_next : (rs : List Rule) (i : ℕ) (r : Rule) (up down : ℕ) → r ≡ get_or rs i r → i < length rs → AllAlive (take i rs) up down → Alive r.ups r.downs up down → AllAlive (take (i + 1) rs) up down
+pub alive_next : (rs : List Rule) (i : ℕ) (r : Rule) (up down : ℕ) → r ≡ get_or rs i r → i < length rs → AllAlive (take i rs) up down → Alive r.sides.ups r.sides.downs up down → AllAlive (take (i + 1) rs) up down
 alive_next rs i r up down e h a b =
     subst (λ (x : List Rule). AllAlive x up down) (sym (take_more rs i r h ∙ ap (λ (x : Rule). take i rs ++ x ∷ []) (sym e))) (alive_more (take i rs) r up down a b)
 
 -- where nothing is open, a rule that can still be met is met
-alive_met : (r : Rule) (up down : ℕ) → up < 2 ^ 64 → down < 2 ^ 64 → bit_and up down ≡ 0 → Alive r.ups r.downs up down → meets up (marks_of r) ≡ true
+alive_met : (r : Rule) (up down : ℕ) → up < 2 ^ 64 → down < 2 ^ 64 → bit_and up down ≡ 0 → Alive r.sides.ups r.sides.downs up down → meets up (marks_of r) ≡ true
 alive_met r up down l m z a = by (tell (meets up (marks_of r)))
   where
     by : (meets up (marks_of r) ≡ true) ⊎ (meets up (marks_of r) ≡ false) → meets up (marks_of r) ≡ true
     by (inl t) = t
     by (inr f) =
-        let no : Hit r.ups r.downs up → ⊥ = λ h. never (sym (hit_rule r up h) ∙ f) in
-        let p : bit_and r.ups up ≡ 0 = no_bits _ (omega (arith, and_le_r r.ups up)) (λ k i t.
-        let b = sym (bit_of_and r.ups up k) ∙ t in
-        no (k, i, taken_seen r.ups r.downs up k (right_of (bit r.ups k) _ b) (left_of _ _ b))) in
-        let q : bit_and r.downs down ≡ 0 = no_bits _ (omega (arith, and_le_r r.downs down)) (λ k i t.
-        let b = sym (bit_of_and r.downs down k) ∙ t in
-        no (k, i, left_seen r.ups r.downs up k (off k (right_of (bit r.downs k) _ b)) (left_of _ _ b))) in
+        let no : Hit r.sides.ups r.sides.downs up → ⊥ = λ h. never (sym (hit_rule r up h) ∙ f) in
+        let p : bit_and r.sides.ups up ≡ 0 = no_bits _ (omega (arith, and_le_r r.sides.ups up)) (λ k i t.
+        let b = sym (bit_of_and r.sides.ups up k) ∙ t in
+        no (k, i, taken_seen r.sides.ups r.sides.downs up k (right_of (bit r.sides.ups k) _ b) (left_of _ _ b))) in
+        let q : bit_and r.sides.downs down ≡ 0 = no_bits _ (omega (arith, and_le_r r.sides.downs down)) (λ k i t.
+        let b = sym (bit_of_and r.sides.downs down k) ∙ t in
+        no (k, i, left_seen r.sides.ups r.sides.downs up k (off k (right_of (bit r.sides.downs k) _ b)) (left_of _ _ b))) in
         absurd (a p q)
       where
         off : (k : ℕ) → bit down k ≡ true → bit up k ≡ false

@@ -14,7 +14,7 @@ Inside a b = (k : ℕ) → bit a k ≡ true → bit b k ≡ true
 -- each rule is surely met, or names only choices that two words have
 unfoldable pub Asked : List Rule → Partial → ℕ → ℕ → Type 0
 Asked [] p ups downs = Unit {0}
-Asked (r ∷ rs) p ups downs = (SurelyMet r p ⊎ (Inside r.ups ups × Inside r.downs downs)) × Asked rs p ups downs
+Asked (r ∷ rs) p ups downs = (SurelyMet r p ⊎ (Inside r.sides.ups ups × Inside r.sides.downs downs)) × Asked rs p ups downs
 
 -- where v differs from w, it neither takes a choice of one word nor leaves one of the other
 pub record NoDearer (ups downs w v : ℕ) : Type 0 where

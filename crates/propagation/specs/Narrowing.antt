@@ -31,12 +31,12 @@ Alive ups downs up down = bit_and ups up ≡ 0 → bit_and downs down ≢ 0
 
 unfoldable pub AllAlive : List Rule → ℕ → ℕ → Type 0
 AllAlive [] up down = Unit {0}
-AllAlive (r ∷ rs) up down = Alive r.ups r.downs up down × AllAlive rs up down
+AllAlive (r ∷ rs) up down = Alive r.sides.ups r.sides.downs up down × AllAlive rs up down
 
 -- what one rule makes of a partial setting
 abbrev pub Applied : Rule → Partial → Option Partial → Type 0
-Applied r p None = Nowhere (Hit r.ups r.downs) p.up p.down
-Applied r p (Some q) = Narrow (Hit r.ups r.downs) p.up p.down q.up q.down × Alive r.ups r.downs p.up p.down
+Applied r p None = Nowhere (Hit r.sides.ups r.sides.downs) p.up p.down
+Applied r p (Some q) = Narrow (Hit r.sides.ups r.sides.downs) p.up p.down q.up q.down × Alive r.sides.ups r.sides.downs p.up p.down
 
 -- what one sweep over the rules makes of it: where nothing changes, each rule can still be met
 abbrev pub Swept : List Rule → Partial → Option Partial → Type 0
@@ -46,11 +46,11 @@ Swept rs p (Some q) =
 
 -- a mark of the rule cannot be false any more
 abbrev pub SureMark : Rule → Partial → Type 0
-SureMark r p = (k : ℕ) × (k < 64) × (((bit r.ups k ≡ true) × (bit p.down k ≡ false)) ⊎ ((bit r.downs k ≡ true) × (bit p.up k ≡ false)))
+SureMark r p = (k : ℕ) × (k < 64) × (((bit r.sides.ups k ≡ true) × (bit p.down k ≡ false)) ⊎ ((bit r.sides.downs k ≡ true) × (bit p.up k ≡ false)))
 
 -- every setting that agrees has a true mark of the rule
 abbrev pub SurelyMet : Rule → Partial → Type 0
-SurelyMet r p = (w : ℕ) → Agrees p.up p.down w → Hit r.ups r.downs w
+SurelyMet r p = (w : ℕ) → Agrees p.up p.down w → Hit r.sides.ups r.sides.downs w
 
 -- a trial: two partial settings with less open, to one of which each setting belongs
 pub record Halves (p first second : Partial) : Type 0 where

@@ -4,36 +4,21 @@
 
 mod partial;
 mod rule;
+mod sides;
 mod trial;
 
 ghost use Rattle.std.specs.Prelude.{◌≡◌, ℕ, ◌<◌, ◌≤◌, true, length, Decides};
-ghost use Rattle.design.specs.Mark.{named, all_are_named};
-ghost use Rattle.propagation.specs.Masks.{up_bit, down_bit};
+ghost use Rattle.design.specs.Mark.{all_are_named};
 ghost use Rattle.propagation.specs.Held.{marks_of};
 ghost use Rattle.propagation.specs.Narrowing.{Applied, Swept, SureMark};
 ghost use Rattle.propagation.specs.Easing.{Asked, Eased};
 
+use arrayvec::ArrayVec;
 use bits::{highest_bit, without};
-use design::choice_bit;
 pub use partial::Partial;
 pub use rule::Rule;
+pub use sides::Sides;
 pub use trial::split;
-
-// The choice that a mark takes, as a word; none for a mark that leaves.
-pub fn up_word(mark: i8) -> u64
-    requires { named 64 mark ≡ true }
-    ensures { result ≡ up_bit mark }
-{
-    if mark > 0 { 1 << choice_bit(mark) } else { 0 }
-}
-
-// The choice that a mark leaves, as a word; none for a mark that takes.
-pub fn down_word(mark: i8) -> u64
-    requires { named 64 mark ≡ true }
-    ensures { result ≡ down_bit mark }
-{
-    if mark > 0 { 0 } else { 1 << choice_bit(mark) }
-}
 
 impl Rule {
     pub fn new(marks: &[i8]) -> Rule
@@ -41,42 +26,37 @@ impl Rule {
         requires named { all_are_named 64 marks.now ≡ true }
         ensures { marks_of result ≡ marks.now }
     {
-        let mut held = [0; 8];
-        held[..marks.len()].copy_from_slice(marks);
-        let mut ups = 0;
-        let mut downs = 0;
+        let mut held = ArrayVec::new();
+        let mut sides = Sides::none();
         for mark in marks {
-            ups |= up_word(*mark);
-            downs |= down_word(*mark);
+            held.push(*mark);
+            sides = sides.with(Sides::of(*mark));
         }
-        Rule {
-            count: marks.len() as u8,
-            marks: held,
-            ups,
-            downs,
-        }
+        Rule { marks: held, sides }
     }
 
     // The marks as they were entered.
     pub fn entered(&self) -> &[i8]
         ensures { result.now ≡ marks_of self.now }
     {
-        &self.marks[0..self.count as usize]
+        self.marks.as_slice()
     }
 
     // Whether a mark of the rule is true whatever the open choices are.
     pub fn is_met(&self, at: Partial) -> bool
         ensures { Decides result (SureMark self.now at) }
     {
-        without(self.ups, at.down) != 0 || without(self.downs, at.up) != 0
+        without(self.sides.ups, at.down) != 0 || without(self.sides.downs, at.up) != 0
     }
 
     // The rule's last open mark must be true where the others are false; nothing where none can be.
     pub fn apply(&self, at: Partial) -> Option<Partial>
         ensures { Applied self.now at result }
     {
-        let takes = self.ups & at.up;
-        let leaves = self.downs & at.down;
+        let Sides {
+            ups: takes,
+            downs: leaves,
+        } = self.sides.possible(at);
         if takes == 0 {
             if leaves == 0 {
                 return None;
@@ -109,29 +89,27 @@ pub fn sweep(rules: &[Rule], at: Partial) -> Option<Partial>
 }
 
 // The choices that rules which are not surely met would have taken, and left.
-fn asked(rules: &[Rule], at: Partial) -> (u64, u64)
-    ensures { Asked rules.now at result.0 result.1 }
+fn asked(rules: &[Rule], at: Partial) -> Sides
+    ensures { Asked rules.now at result.ups result.downs }
 {
-    let mut ups: u64 = 0;
-    let mut downs: u64 = 0;
+    let mut sides = Sides::none();
     for rule in rules {
         if !rule.is_met(at) {
-            ups |= rule.ups;
-            downs |= rule.downs;
+            sides = sides.with(rule.sides);
         }
     }
-    (ups, downs)
+    sides
 }
 
 // Settles each open choice of which one value is asked for by no open rule, and whose other value
-// costs nothing. `ups` are the choices that cost something to take, and `downs` to leave.
-pub fn ease(rules: &[Rule], ups: u64, downs: u64, at: Partial) -> Partial
-    ensures { Eased rules.now ups downs at result }
+// costs nothing. `priced` are the choices that cost something to take, and to leave.
+pub fn ease(rules: &[Rule], priced: Sides, at: Partial) -> Partial
+    ensures { Eased rules.now priced.ups priced.downs at result }
 {
     let open = at.up & at.down;
-    let (take_asked, leave_asked) = asked(rules, at);
-    let leave = without(open, take_asked | downs);
-    let take = without(open, leave_asked | ups | leave);
+    let asked = asked(rules, at);
+    let leave = without(open, asked.ups | priced.downs);
+    let take = without(open, asked.downs | priced.ups | leave);
     Partial {
         up: without(at.up, leave),
         down: without(at.down, take),

@@ -4,6 +4,7 @@ ghost use Rattle.propagation.specs.Narrowing.{Halves};
 
 use crate::partial::Partial;
 use crate::rule::Rule;
+use crate::sides::Sides;
 use bits::{highest_index, members_of, without_bit};
 
 // How much open rules ask for a choice to be taken, and to be left. Short rules weigh more.
@@ -20,17 +21,18 @@ impl Weight {
 }
 
 // Adds what an open rule asks for.
-fn add_rule(weights: &mut [Weight; 64], takes: u64, leaves: u64) {
-    let marks = takes
+fn add_rule(weights: &mut [Weight; 64], sides: Sides) {
+    let marks = sides
+        .ups
         .count_ones()
-        .saturating_add(leaves.count_ones())
+        .saturating_add(sides.downs.count_ones())
         .min(8);
     let weight = 1 << (2 * (8 - marks));
-    for k in members_of(takes) {
+    for k in members_of(sides.ups) {
         let old = weights[k as usize];
         weights[k as usize].up = old.up.saturating_add(weight);
     }
-    for k in members_of(leaves) {
+    for k in members_of(sides.downs) {
         let old = weights[k as usize];
         weights[k as usize].down = old.down.saturating_add(weight);
     }
@@ -40,7 +42,7 @@ fn weigh(rules: &[Rule], at: Partial) -> [Weight; 64] {
     let mut weights = [Weight { up: 0, down: 0 }; 64];
     for rule in rules {
         if !rule.is_met(at) {
-            add_rule(&mut weights, rule.ups & at.up, rule.downs & at.down);
+            add_rule(&mut weights, rule.sides.possible(at));
         }
     }
     weights

@@ -5,12 +5,12 @@ use Rattle.propagation.proofs.ease.Goals as goal
 
 pub returns : goal.returns
 returns c =
-    let n = c.asked-take_asked.result in
+    let n = c.asked-asked.result in
     let leave = c.without-leave.result in
     let add = c.without-take.result in
-    eased c.args.rules.now c.args.ups c.args.downs c.args.at (record { up = c.without.result; down = c.without-2.result })
-    n.0 n.1 leave add (bit_or n.0 c.args.downs) (bit_or (bit_or n.1 c.args.ups) leave)
-    c.asked-take_asked.ensures (omega arith) c.without-leave.ensures.bits c.without-take.ensures.bits
-    (λ k f. or_off n.0 c.args.downs k f)
-    (λ k f. let x = or_off (bit_or n.1 c.args.ups) leave k f in let y = or_off n.1 c.args.ups k x.0 in (y.0, y.1, x.1))
+    eased c.args.rules.now c.args.priced.ups c.args.priced.downs c.args.at (record { up = c.without.result; down = c.without-2.result })
+    n.ups n.downs leave add (bit_or n.ups c.args.priced.downs) (bit_or (bit_or n.downs c.args.priced.ups) leave)
+    c.asked-asked.ensures (omega arith) c.without-leave.ensures.bits c.without-take.ensures.bits
+    (λ k f. or_off n.ups c.args.priced.downs k f)
+    (λ k f. let x = or_off (bit_or n.downs c.args.priced.ups) leave k f in let y = or_off n.downs c.args.priced.ups k x.0 in (y.0, y.1, x.1))
     c.without.ensures.bits c.without-2.ensures.bits c.without.ensures.less c.without-2.ensures.less

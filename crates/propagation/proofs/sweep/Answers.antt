@@ -25,14 +25,14 @@ loop-rule-preserved c =
     let q = c.in_ok-here.ensures in
     let n = c.loop-rule.invariant.0 in
     let h = item_hit c.args.rules.now c.loop-rule.rule-index r c.rule-item.is c.loop-rule-test.true in (
-      narrow_more (Met c.args.rules.now) (Hit r.ups r.downs) p.up p.down here.up here.down next.up next.down h n q.0,
+      narrow_more (Met c.args.rules.now) (Hit r.sides.ups r.sides.downs) p.up p.down here.up here.down next.up next.down h n q.0,
       λ e f.
           let a : next.up ≤ here.up = q.0.up_le in
           let b : next.down ≤ here.down = q.0.down_le in
           let u : here.up ≡ p.up = omega (arith, n.up_le) in
           let d : here.down ≡ p.down = omega (arith, n.down_le) in
           alive_next c.args.rules.now c.loop-rule.rule-index r p.up p.down c.rule-item.is c.loop-rule-test.true (c.loop-rule.invariant.1 u d)
-          (subst (λ (x : ℕ). Alive r.ups r.downs x p.down) u (subst (λ (x : ℕ). Alive r.ups r.downs here.up x) d q.1)),
+          (subst (λ (x : ℕ). Alive r.sides.ups r.sides.downs x p.down) u (subst (λ (x : ℕ). Alive r.sides.ups r.sides.downs here.up x) d q.1)),
     )
 
 pub returns : goal.returns

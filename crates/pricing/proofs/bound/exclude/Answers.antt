@@ -1,6 +1,7 @@
 use Rattle.std.proofs.Common.{ℕ, not, ◌&&◌, ap, ◌∙◌, w8}
 use Rattle.std.proofs.lemmas.Int.{to_z-of_z}
 use Rattle.bits.specs.Bit.{bit}
+use Rattle.propagation.specs.declared.sides.Sides.{Sides}
 use Rattle.propagation.specs.Masks.{up_bit, down_bit}
 use Rattle.pricing.proofs.Bounding.{drop_mark}
 use Rattle.pricing.proofs.bound.exclude.Goals as goal
@@ -10,8 +11,8 @@ returns c =
     let p = c.args.at in
     let m = c.args.mark in
     let e = to_z-of_z w8 c.args.mark c.ranges.mark in
-    let u = c.up_word.ensures ∙ ap up_bit e in
-    let d = c.down_word.ensures ∙ ap down_bit e in
+    let u = ap (λ (z : Sides). z.ups) c.of-sides.ensures ∙ ap up_bit e in
+    let d = ap (λ (z : Sides). z.downs) c.of-sides.ensures ∙ ap down_bit e in
     record {
       up_le = c.without.ensures.less;
       down_le = c.without-2.ensures.less;

@@ -1,10 +1,9 @@
-use Rattle.std.proofs.Common.{◌≡◌, ℕ, List, ap, ◌∙◌, subst, arith}
+use Rattle.std.proofs.Common.{List, ap, ◌∙◌, subst, ap₂, arith}
 use lib.Bits.{bit_or}
 use Rattle.scales.proofs.ByPlaces.{place_laws}
 use Rattle.propagation.specs.declared.rule.Rule.{Rule}
-use Rattle.propagation.specs.Masks.{ups_of, downs_of}
+use Rattle.propagation.specs.declared.sides.Sides.{Sides}
 use Rattle.propagation.specs.Easing.{Eased}
-use Rattle.pricing.specs.Tables.{marks_in}
 use Rattle.plain.specs.Held.{pair_of}
 use Rattle.plain.specs.Asked.{query}
 use Rattle.plain.proofs.Laws.{sound}
@@ -32,17 +31,16 @@ returns-then-ne g t c =
     let j = c.args.self.now in
     let h = c.in_ok-here.ensures in
     let q = query s j c.args.a c.args.b in
-    let x1 = c.priced_choices-ups_a.result in
-    let x2 = c.priced_choices-ups_b.result in
-    let ups = bit_or x1.0 x2.0 in
-    let downs = bit_or x1.1 x2.1 in
-    let eu : ups ≡ bit_or (ups_of (marks_in q.prices_a)) (ups_of (marks_in q.prices_b)) = ap (λ (n : ℕ). bit_or n x2.0) (ap (λ (z : ℕ × ℕ). z.0) c.priced_choices-ups_a.ensures) ∙ ap (bit_or (ups_of (marks_in q.prices_a))) (ap (λ (z : ℕ × ℕ). z.0) c.priced_choices-ups_b.ensures) in
-    let ed : downs ≡ bit_or (downs_of (marks_in q.prices_a)) (downs_of (marks_in q.prices_b)) = ap (λ (n : ℕ). bit_or n x2.1) (ap (λ (z : ℕ × ℕ). z.1) c.priced_choices-ups_a.ensures) ∙ ap (bit_or (downs_of (marks_in q.prices_a))) (ap (λ (z : ℕ × ℕ). z.1) c.priced_choices-ups_b.ensures) in
+    let x1 = c.priced_choices-priced_a.ensures in
+    let x2 = c.priced_choices.ensures in
+    let p = c.with-priced.ensures in
+    let eu = ap (λ (z : Sides). z.ups) p ∙ ap₂ (λ (y z : Sides). bit_or y.ups z.ups) x1 x2 in
+    let ed = ap (λ (z : Sides). z.downs) p ∙ ap₂ (λ (y z : Sides). bit_or y.downs z.downs) x1 x2 in
     through q c.args.at c.in_ok-here.here c.search.result h.0
     (eased_found q
     (sound s j c.args.a c.args.b (place_laws x.places x.place x.at x.joined x.laws) (place_laws y.places y.place y.at y.joined y.laws))
-    c.in_ok-here.here c.ease-eased.result c.search.result ups downs eu ed
-    (subst (λ (rs : List Rule). Eased rs ups downs c.in_ok-here.here c.ease-eased.result) c.as_slice.ensures.value c.ease-eased.ensures)
+    c.in_ok-here.here c.ease-eased.result c.search.result c.with-priced.result.ups c.with-priced.result.downs eu ed
+    (subst (λ (rs : List Rule). Eased rs c.with-priced.result.ups c.with-priced.result.downs c.in_ok-here.here c.ease-eased.result) c.as_slice.ensures.value c.ease-eased.ensures)
     c.search.ensures)
 
 pub returns-in-None : goal.returns-in-None

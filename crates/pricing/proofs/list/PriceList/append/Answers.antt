@@ -2,6 +2,7 @@ use Rattle.std.proofs.Common.{◌≡◌, ℕ, ◌<◌, max, [], ◌∷◌, ◌++
 use Rattle.std.proofs.lemmas.Int.{to_z-of_z}
 use Rattle.design.specs.declared.price.Price.{Price}
 use Rattle.design.specs.Mark.{bit_of}
+use Rattle.propagation.specs.declared.sides.Sides.{Sides}
 use Rattle.propagation.specs.Masks.{up_bit, down_bit}
 use Rattle.pricing.specs.Tables.{take_side, leave_side}
 use Rattle.design.proofs.OfMarks.{named_up}
@@ -32,6 +33,6 @@ invariant_of-self g c =
       named = named_next 64 ps qs p i l.named n64;
       take_table = take_next ps qs p l.taking c.choice_bit-k.result c.max.result i k a n64 (c.max.ensures ∙ ap (max (get_or l.taking c.choice_bit-k.result 0)) t) l.take_table;
       leave_table = leave_next ps qs p l.leaving c.choice_bit-k.result c.max-2.result i k b n64 (c.max-2.ensures ∙ ap (max (get_or l.leaving c.choice_bit-k.result 0)) v) l.leave_table;
-      up_word = ups_next ps qs p l.ups c.up_word.result i l.up_word (c.up_word.ensures ∙ ap up_bit f);
-      down_word = downs_next ps qs p l.downs c.down_word.result i l.down_word (c.down_word.ensures ∙ ap down_bit f);
+      up_word = ap (λ (z : Sides). z.ups) c.with-self.ensures ∙ ups_next ps qs p l.sides.ups c.of.result.ups i l.up_word (ap (λ (z : Sides). z.ups) c.of.ensures ∙ ap up_bit f);
+      down_word = ap (λ (z : Sides). z.downs) c.with-self.ensures ∙ downs_next ps qs p l.sides.downs c.of.result.downs i l.down_word (ap (λ (z : Sides). z.downs) c.of.ensures ∙ ap down_bit f);
     }

@@ -5,6 +5,6 @@ pub returns : goal.returns
 returns g c =
     let l = c.args.self.now in
     record {
-      taking = λ k i t. omega (arith, c.least_at.ensures.each k t, c.least_at-2.ensures.from, l.take_table k i);
-      leaving = λ k i t. omega (arith, c.least_at-2.ensures.each k t, l.leave_table k i);
+      taking = λ k i t. omega (arith, c.least_at-taking.ensures.each k t, c.least_at.ensures.from, l.take_table k i);
+      leaving = λ k i t. omega (arith, c.least_at.ensures.each k t, l.leave_table k i);
     }
