@@ -1,5 +1,5 @@
 -- A design written part by part: each part is taken once those before it are written.
-use Rattle.std.proofs.Common.{◌≡◌, ℕ, ◌+◌, ◌<◌, ◌≤◌, List, [], ◌∷◌, ◌++◌, length, get_or, take, drop, ℤ, sym, refl, ap, ◌∙◌, subst, append_assoc, append-nil, arith, take-append-drop, length-take}
+use Rattle.std.proofs.Common.{◌≡◌, ℕ, ◌+◌, ◌<◌, List, [], ◌∷◌, ◌++◌, length, get_or, take, drop, ℤ, sym, refl, ap, ◌∙◌, subst, append_assoc, append-nil, arith, take-append-drop}
 use Rattle.std.proofs.lemmas.List.{take_more, map-append}
 use Rattle.solver.specs.Setting.{clauses_named}
 use Rattle.solver.specs.State.{Solving, with_clauses}
@@ -45,9 +45,6 @@ rules_start v = with_none v ∙ ap (with_clauses v) (sym no_rules_of)
 module _ (rs : List Rule) (i : ℕ) (r : Rule) (h : i < length rs) (e : r ≡ get_or rs i r) (ms : List ℤ) (q : ms ≡ marks_of r) where
   one_more : rules_of (take (i + 1) rs) ≡ rules_of (take i rs) ++ ms ∷ []
   one_more = rules_next (take i rs) (take (i + 1) rs) r ms (take_more rs i r h ∙ ap (λ (x : Rule). take i rs ++ x ∷ []) (sym e)) (sym q)
-
-  pub rule_short : length ms ≤ 8
-  rule_short = subst (λ (l : List ℤ). length l ≤ 8) (sym q) (simp length-take (let k = r.short in omega arith))
 
   pub rule_taken : (v v' : Solving) → v' ≡ with_clauses v (rules_of (take i rs)) → Takes v (rules_of rs) → Takes v' (ms ∷ [])
   rule_taken v v' w t =

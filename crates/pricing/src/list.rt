@@ -27,3 +27,12 @@ pub struct PriceList<S> {
     ghost up_word: { sides.ups ≡ ups_of (marks_in entries.items) },
     ghost down_word: { sides.downs ≡ downs_of (marks_in entries.items) },
 }
+
+impl<S> PriceList<S> {
+    // The choices that cost something to take, and those that cost something to leave.
+    pub fn priced_choices(&self) -> Sides
+        ensures { result ≡ record { ups = ups_of (marks_in self.now.entries.items); downs = downs_of (marks_in self.now.entries.items) } }
+    {
+        self.sides
+    }
+}

@@ -56,13 +56,6 @@ impl<S> PriceList<S> {
         self.sides = self.sides.with(Sides::of(mark));
         self.entries.push_reserved(Price { mark, place });
     }
-
-    // The choices that cost something to take, and those that cost something to leave.
-    pub fn priced_choices(&self) -> Sides
-        ensures { result ≡ record { ups = ups_of (marks_in self.now.entries.items); downs = downs_of (marks_in self.now.entries.items) } }
-    {
-        self.sides
-    }
 }
 
 impl<S: Scale> PriceList<S> {

@@ -37,7 +37,8 @@ impl Rule {
 
     // The marks as they were entered.
     pub fn entered(&self) -> &[i8]
-        ensures { result.now ≡ marks_of self.now }
+        ensures marks { result.now ≡ marks_of self.now }
+        ensures short { length result.now ≤ 8 }
     {
         self.marks.as_slice()
     }

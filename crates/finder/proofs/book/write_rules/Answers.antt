@@ -3,7 +3,7 @@ use Rattle.std.proofs.lemmas.List.{take_all}
 use Rattle.solver.specs.State.{with_clauses}
 use Rattle.propagation.specs.Held.{rules_of}
 use Rattle.propagation.specs.declared.rule.Rule.{Rule}
-use Rattle.finder.proofs.Writing.{rules_start, rule_short, rule_taken, rule_written}
+use Rattle.finder.proofs.Writing.{rules_start, rule_taken, rule_written}
 use Rattle.finder.proofs.book.write_rules.Goals as goal
 
 pub loop-rule-init : goal.loop-rule-init
@@ -14,8 +14,8 @@ write_rule-requires g c =
     let rs = c.args.rules.now in
     let m = g.S.Solver.meaning in
     record {
-      short = rule_short rs c.loop-rule.rule-index c.rule-item.result c.loop-rule-test.true c.rule-item.is c.entered.result.now c.entered.ensures;
-      takes = rule_taken rs c.loop-rule.rule-index c.rule-item.result c.loop-rule-test.true c.rule-item.is c.entered.result.now c.entered.ensures
+      short = c.entered.ensures.short;
+      takes = rule_taken rs c.loop-rule.rule-index c.rule-item.result c.loop-rule-test.true c.rule-item.is c.entered.result.now c.entered.ensures.marks
           (m c.args.solver.now) (m c.loop-rule.solver) c.loop-rule.invariant c.requires;
     }
 
@@ -23,7 +23,7 @@ pub loop-rule-preserved : goal.loop-rule-preserved
 loop-rule-preserved g c =
     let rs = c.args.rules.now in
     let m = g.S.Solver.meaning in
-    rule_written rs c.loop-rule.rule-index c.rule-item.result c.loop-rule-test.true c.rule-item.is c.entered.result.now c.entered.ensures
+    rule_written rs c.loop-rule.rule-index c.rule-item.result c.loop-rule-test.true c.rule-item.is c.entered.result.now c.entered.ensures.marks
     (m c.args.solver.now) (m c.loop-rule.solver) (m c.write_rule.new.solver) c.loop-rule.invariant c.write_rule.ensures
 
 pub returns : goal.returns
