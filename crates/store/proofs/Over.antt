@@ -1,8 +1,7 @@
 -- A list with another written over it.
-use Rattle.std.proofs.Common.{◌≡◌, ℕ, ◌+◌, ◌-◌, ◌<◌, ◌≤◌, List, [], ◌∷◌, ◌++◌, length, get_or, take, drop, set, replicate, ℤ, pos, sym, refl, ap, ◌∙◌, append_assoc, arith, length-append}
-use Rattle.std.proofs.lemmas.List.{drop-drop, length-drop, take_at, drop_at, length-take-le, take-take, set_at, drop_more, take_more, get_or-drop, take-append-le, length_push, length-replicate, replicate_more, take-append-drop}
+use Rattle.std.proofs.Common.{◌≡◌, ℕ, ◌+◌, ◌-◌, ◌<◌, ◌≤◌, List, [], ◌∷◌, ◌++◌, length, get_or, take, drop, set, ℤ, pos, sym, refl, ap, ◌∙◌, append_assoc, arith, length-append}
+use Rattle.std.proofs.lemmas.List.{drop-drop, length-drop, take_at, drop_at, length-take-le, take-take, set_at, drop_more, take_more, get_or-drop, take-append-le, length_push, take-append-drop}
 use Rattle.store.specs.Parts.{over, part}
-use Rattle.store.specs.Long.{part_long}
 
 module _ {X : Type 0} (s : List X) (at : ℕ) (h : at ≤ length s) where
   front_long : (new : List X) → length (take at s ++ new) ≡ at + length new
@@ -61,19 +60,7 @@ unfolding part
 part_over s at new n h e =
     ap (take n) (drop_at (take at s) (new ++ drop (at + length new) s) at (length-take-le at s h)) ∙ take_at new (drop (at + length new) s) n (sym e)
 
--- a loop that writes 0, and one that copies
-pub zero_more : (s : List ℤ) (at i : ℕ) → at + i < length s → set (over s at (replicate i (pos 0))) (at + i) (pos 0) ≡ over s at (replicate (i + 1) (pos 0))
-zero_more s at i h =
-    let n : length (replicate i (pos 0)) ≡ i = length-replicate i (pos 0) in
-    ap (λ x. set (over s at (replicate i (pos 0))) (at + x) (pos 0)) (sym n)
-    ∙ (over_more s at (omega arith) (replicate i (pos 0)) (pos 0) (omega arith) ∙ ap (over s at) (replicate_more i (pos 0)))
-
-pub copy_more : (s : List ℤ) (from to i : ℕ) (z : ℤ) → to + i ≤ from → from + i < length s → z ≡ get_or s (from + i) (pos 0)
-    → set (over s to (part s from i)) (to + i) z ≡ over s to (part s from (i + 1))
-copy_more s from to i z a h e =
-    let n : length (part s from i) ≡ i = part_long s from i (omega arith) in
-    ap (λ x. set (over s to (part s from i)) (to + x) z) (sym n)
-    ∙ (over_more s to (omega arith) (part s from i) z (omega arith) ∙ ap (over s to) (ap (λ x. part s from i ++ x ∷ []) e ∙ sym (part_more s from i h)))
-
-pub copy_reads : (s : List ℤ) (from to i : ℕ) → to + i ≤ from → from + i < length s → get_or (over s to (part s from i)) (from + i) (pos 0) ≡ get_or s (from + i) (pos 0)
-copy_reads s from to i a h = get_d_over s to (omega arith) (part s from i) (from + i) (pos 0) (omega (arith, part_long s from i (omega arith)))
+-- the part behind the front
+pub part_here : (s h rest : List ℤ) (k m : ℕ) → k ≤ length s → length h ≡ m → part (take k s ++ (h ++ rest)) k m ≡ h
+unfolding part
+part_here s h rest k m l n = ap (take m) (drop_at (take k s) (h ++ rest) k (length-take-le k s l)) ∙ take_at h rest m n

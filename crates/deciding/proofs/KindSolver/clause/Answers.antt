@@ -6,7 +6,7 @@ use Rattle.solver.specs.Checks.{clause_check}
 use Rattle.store.specs.Coding.{encode}
 use Rattle.store.specs.Long.{units_sound}
 use Rattle.store.specs.Parts.{clauses_of, is_taken, part}
-use Rattle.store.proofs.Clauses.{wrote, one_more, more_sound, named_more, part_kept}
+use Rattle.store.proofs.Encoded.{wrote, one_more, more_sound, named_more, part_kept}
 use Rattle.store.proofs.Answering.{passed, same_solving}
 use Rattle.deciding.proofs.KindSolver.clause.Goals as goal
 

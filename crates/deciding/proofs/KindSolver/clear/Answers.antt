@@ -1,7 +1,7 @@
 use Rattle.std.proofs.Common.{refl, ap, ◌∙◌, arith}
 use Rattle.solver.specs.Setting.{clauses_named}
 use Rattle.store.specs.Coding.{encode_all}
-use Rattle.store.proofs.Clauses.{no_clauses, encode_none, named_none}
+use Rattle.store.proofs.Encoded.{no_clauses, encode_none, named_none}
 use Rattle.store.proofs.Answering.{same_solving}
 use Rattle.deciding.proofs.KindSolver.clear.Goals as goal
 
