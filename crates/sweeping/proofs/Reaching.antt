@@ -97,10 +97,6 @@ given_by f a b m y p q e g =
 pub self_restored : (a : Assignment) → Restored a a
 self_restored a = record { same = same_self a; top = refl; front = refl; values = refl }
 
-pub then_restored : (a b c : Assignment) → Restored a b → Restored b c → Restored a c
-then_restored a b c p q =
-    record { same = then_same a b c p.same q.same; top = q.top ∙ p.top; front = ap (λ n. take n c.trail.now) (sym p.top) ∙ (q.front ∙ (ap (λ n. take n b.trail.now) p.top ∙ p.front)); values = q.values ∙ p.values }
-
 -- what was settled, with the trail cut back to where it was
 pub undone_restored : (Good : List Bool → Type 0) (a b c d : Assignment) → Reached Good a b → Restored b c → Undone c a.top d → Restored a d
 undone_restored Good a b c d p q u =

@@ -4,7 +4,6 @@ use lib.ListN.{get_or-map}
 use Rattle.std.proofs.lemmas.List.{get_or-set_same, get_or-set_other}
 use Rattle.std.proofs.lemmas.Bool.{and_parts, cases_eq}
 use Rattle.design.specs.Mark.{named, all_are_named, bit_of}
-use Rattle.design.proofs.OfMarks.{bit_below}
 use Rattle.solver.specs.Setting.{setting, truth, meets}
 use Rattle.store.specs.Parts.{is_taken}
 use Rattle.values.specs.declared.State.{State}
@@ -166,24 +165,6 @@ not-false false e = sym e
 fits_against : (m : ℤ) (x : Bool) → sided m x ≡ false → Fits (value_that_fails m) x
 fits_against (pos c) x e = e
 fits_against (negsuc k) x e = not-false x e
-
--- a setting in which an open mark is true agrees with the values that make it so, and likewise
--- where it is false
-pub agrees_for : (v : List ℤ) (b : List Bool) (m : ℤ) → named (length v) m ≡ true → truth (setting b) m ≡ true → Agrees v b → Agrees (set v (bit_of m) (value_that_holds m)) b
-agrees_for v b m w t a = agrees_set v b (bit_of m) (value_that_holds m) (bit_below (length v) m w) (fits_for m (get_or b (bit_of m) false) (sym (truth_sided b m) ∙ t)) a
-
-pub agrees_against : (v : List ℤ) (b : List Bool) (m : ℤ) → named (length v) m ≡ true → truth (setting b) m ≡ false → Agrees v b → Agrees (set v (bit_of m) (value_that_fails m)) b
-agrees_against v b m w t a =
-    agrees_set v b (bit_of m) (value_that_fails m) (bit_below (length v) m w) (fits_against m (get_or b (bit_of m) false) (sym (truth_sided b m) ∙ t)) a
-
--- values that make a mark true, in a setting that agrees
-pub mark_for : (v : List ℤ) (b : List Bool) (m : ℤ) → named (length v) m ≡ true → Agrees (set v (bit_of m) (value_that_holds m)) b → truth (setting b) m ≡ true
-mark_for v b m w a =
-    truth_sided b m ∙ to m (get_or b (bit_of m) false) (subst (λ z. Fits z (get_or b (bit_of m) false)) (get_or-set_same v (bit_of m) (value_that_holds m) (pos 0) (bit_below (length v) m w)) (a (bit_of m)))
-  where
-    to : (m : ℤ) (x : Bool) → Fits (value_that_holds m) x → sided m x ≡ true
-    to (pos c) x f = f
-    to (negsuc k) x f = ap not f
 
 -- an open mark that says left is true in the values' own setting
 open_left : (v : List ℤ) (k : ℕ) → truth_in v (negsuc k) ≡ None → truth (setting (setting_of v)) (negsuc k) ≡ true
