@@ -1,5 +1,5 @@
 -- From a search's answer to what decide leaves.
-use Rattle.std.proofs.Common.{◌≡◌, ℕ, zero, suc, ◌+◌, ◌≤◌, Bool, true, false, List, [], ◌∷◌, ◌++◌, map, length, take, drop, ℤ, pos, negsuc, Ok, sym, refl, ap, ◌∙◌, subst, arith}
+use Rattle.std.proofs.Common.{◌*◌, ◌≡◌, ℕ, zero, suc, ◌+◌, ◌≤◌, Bool, true, false, List, [], ◌∷◌, ◌++◌, map, length, take, drop, ℤ, pos, negsuc, Ok, sym, refl, ap, ◌∙◌, subst, arith}
 use lib.ListN.{length-map}
 use Rattle.std.proofs.lemmas.List.{length-take-le, take-take, take_at}
 use Rattle.std.proofs.Math.Seq.{take-add}
@@ -10,7 +10,7 @@ use Rattle.solver.specs.Calls.{Decided}
 use Rattle.store.specs.Coding.{Sound, encode_all, clauses_in}
 use Rattle.store.specs.Parts.{part, is_taken, clauses_of, held_of, meaning_of, Stored}
 use Rattle.store.proofs.Over.{part_here}
-use Rattle.store.proofs.Encoded.{same_clauses}
+use Rattle.store.proofs.Encoded.{same_clauses, no_clauses, encode_none, named_none}
 use Rattle.store.proofs.Answering.{same_solving}
 use Rattle.values.specs.Partial.{is_open, opens}
 use Rattle.sweeping.specs.Trail.{Meets}
@@ -26,6 +26,18 @@ opens_le : (v : List ℤ) → opens v ≤ length v
 unfolding opens
 opens_le [] = omega arith
 opens_le (x ∷ xs) = omega (arith, open_le x, opens_le xs)
+
+-- a store without clauses
+pub stored_none : (s : List ℤ) (m k : ℕ) → 1 ≤ m → m ≤ 32767 → k + 4 * m ≤ length s → Stored s 0 m k
+stored_none s m k a b h =
+    record {
+      some_choice = a;
+      few_choices = b;
+      low = omega arith;
+      high = h;
+      sound = ap encode_all (no_clauses s) ∙ encode_none;
+      named = ap (clauses_named m) (no_clauses s) ∙ named_none m;
+    }
 
 -- a store whose clause room is as it was
 pub stored_after : (s s' : List ℤ) (used m k : ℕ) → Stored s used m k → length s' ≡ length s → take k s' ≡ take k s → Stored s' used m k

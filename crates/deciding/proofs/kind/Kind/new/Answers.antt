@@ -1,15 +1,13 @@
-use Rattle.std.proofs.Common.{◌≡◌, ◌+◌, ◌-◌, length, take, drop, replicate, pos, ap, ◌∙◌, arith}
+use Rattle.std.proofs.Common.{◌≡◌, ◌+◌, ◌-◌, length, take, drop, replicate, pos, ap, ◌∙◌, arith, rules}
 use Rattle.solver.specs.Setting.{clauses_named}
 use Rattle.store.specs.Coding.{encode_all}
 use Rattle.store.proofs.Encoded.{no_clauses, encode_none, named_none}
 use Rattle.store.proofs.Answering.{held_zero, same_solving}
+use Rattle.deciding.proofs.Conclusions.{stored_none}
 use Rattle.deciding.proofs.kind.Kind.new.Goals as goal
 
-pub invariant_of-result-clause-sound : goal.invariant_of-result-clause-sound
-invariant_of-result-clause-sound g c = ap encode_all (no_clauses _) ∙ encode_none
-
-pub invariant_of-result-clause-named : goal.invariant_of-result-clause-named
-invariant_of-result-clause-named g c = ap (clauses_named c.args.sizes.choices) (no_clauses _) ∙ named_none c.args.sizes.choices
+pub invariant_of-result : goal.invariant_of-result
+invariant_of-result g c = record { stored = stored_none _ c.args.sizes.choices c.args.sizes.room c.args.sizes.some c.args.sizes.few (search rules) }
 
 pub returns : goal.returns
 returns g c =
