@@ -18,17 +18,18 @@ use store::check_store;
 
 // The bytes still to be read.
 #[derive(Drop)]
-struct Input {
-    bytes: Vec<u8>,
-    at: usize,
+struct Input<'a> {
+    rest: &'a [u8],
 }
 
-impl Input {
+impl Input<'_> {
     // 0 past the end.
     fn byte(&mut self) -> u8 {
-        let byte = self.bytes.get(self.at).copied().unwrap_or(0);
-        self.at = self.at.saturating_add(1);
-        byte
+        let Some((byte, rest)) = self.rest.split_first() else {
+            return 0;
+        };
+        self.rest = rest;
+        *byte
     }
 
     fn number(&mut self) -> u16 {
@@ -42,16 +43,16 @@ impl Input {
     }
 }
 
-fn read_clause<S: Solver>(input: &mut Input, solver: &mut S) -> Result<(), SolverFault> {
-    let count = input.byte() as usize;
+fn read_clause<S: Solver>(input: &mut Input<'_>, solver: &mut S) -> Result<(), SolverFault> {
+    let count = usize::from(input.byte()).min(8);
     let mut marks = [0i16; 8];
-    for i in 0..count.min(8) {
-        marks[i] = input.mark();
+    for mark in marks[..count].iter_mut() {
+        *mark = input.mark();
     }
-    solver.clause(&marks[0..count.min(8)])
+    solver.clause(&marks[..count])
 }
 
-fn read_clauses<S: Solver>(input: &mut Input, solver: &mut S) -> Result<(), SolverFault> {
+fn read_clauses<S: Solver>(input: &mut Input<'_>, solver: &mut S) -> Result<(), SolverFault> {
     for _ in 0..input.number() {
         read_clause(input, solver)?;
     }
@@ -63,9 +64,8 @@ fn taken_sum<S: Solver>(solver: &S) -> (u32, u32) {
     let (choices, _) = solver.size();
     let mut count: u32 = 0;
     let mut sum: u32 = 0;
-    for k in 0..choices {
-        let choice = k.saturating_add(1);
-        if let Ok(true) = solver.taken(choice) {
+    for choice in 1..=choices {
+        if solver.taken(choice) == Ok(true) {
             count = count.saturating_add(1);
             sum = sum.saturating_add(u32::from(choice));
         }
@@ -88,21 +88,17 @@ fn decide_often<S: Solver>(
 
 fn answer<S: Solver + Drop>(
     rt: &HostRuntime,
-    input: &mut Input,
+    input: &mut Input<'_>,
     mut solver: S,
 ) -> anyhow::Result<()> {
-    if read_clauses(input, &mut solver).is_err() {
-        return Err(anyhow!("a clause is refused"));
-    }
-    let mut assumptions = Vec::new(rt.alloc());
-    for _ in 0..input.number() {
-        assumptions.push(input.mark())?;
-    }
-    match decide_often(&mut solver, assumptions.as_slice(), input.number()) {
-        Err(_) => return Err(anyhow!("an assumption is refused")),
-        Ok(None) => {}
-        Ok(Some(false)) => println!(rt; "no")?,
-        Ok(Some(true)) => {
+    read_clauses(input, &mut solver).map_err(|_| anyhow!("a clause is refused"))?;
+    let count = input.number();
+    let assumptions: Vec<i16> = (0..count).map(|_| input.mark()).collect(rt.alloc())?;
+    let answer = decide_often(&mut solver, &assumptions, input.number());
+    match answer.map_err(|_| anyhow!("an assumption is refused"))? {
+        None => {}
+        Some(false) => println!(rt; "no")?,
+        Some(true) => {
             let (count, sum) = taken_sum(&solver);
             println!(rt; "yes {count} {sum}")?;
         }
@@ -111,9 +107,12 @@ fn answer<S: Solver + Drop>(
 }
 
 // A solver of a kind, with room for as many numbers as the input can bring.
-fn run_kind<S: Search>(rt: &HostRuntime, input: &mut Input) -> anyhow::Result<()> {
+fn run_kind<S: Search>(
+    rt: &HostRuntime,
+    room: usize,
+    input: &mut Input<'_>,
+) -> anyhow::Result<()> {
     let choices = input.number();
-    let room = input.bytes.len();
     let size = room.saturating_add(usize::from(choices).saturating_mul(4));
     let mut memory = vec![in rt.alloc(); 0i16; size]?;
     let cells = memory.as_mut_slice();
@@ -127,9 +126,9 @@ fn run_kind<S: Search>(rt: &HostRuntime, input: &mut Input) -> anyhow::Result<()
 fn main(rt: HostRuntime) -> anyhow::Result<()> {
     let mut bytes = Vec::new(rt.alloc());
     rt.stdin().read_to_end(&mut bytes)?;
-    let mut input = Input { bytes, at: 0 };
+    let mut input = Input { rest: &bytes };
     match input.byte() {
-        1 => run_kind::<ByStepping>(&rt, &mut input),
-        _ => run_kind::<BySettling>(&rt, &mut input),
+        1 => run_kind::<ByStepping>(&rt, bytes.len(), &mut input),
+        _ => run_kind::<BySettling>(&rt, bytes.len(), &mut input),
     }
 }

@@ -1,23 +1,21 @@
 -- From a search's answer to what decide leaves.
-use Rattle.std.proofs.Common.{◌≡◌, ℕ, zero, suc, ◌+◌, ◌*◌, ◌≤◌, Bool, true, false, List, [], ◌∷◌, map, length, take, ℤ, pos, negsuc, Ok, sym, refl, ap, ◌∙◌, subst, arith}
+use Rattle.std.proofs.Common.{◌*◌, ◌≡◌, ℕ, zero, suc, ◌+◌, ◌≤◌, Bool, true, false, List, [], ◌∷◌, ◌++◌, map, length, take, drop, ℤ, pos, negsuc, Ok, sym, refl, ap, ◌∙◌, subst, arith}
 use lib.ListN.{length-map}
-use Rattle.solver.specs.Setting.{clauses_named}
+use Rattle.std.proofs.lemmas.List.{length-take-le, take-take, take_at}
+use Rattle.std.proofs.Math.Seq.{take-add}
+use Rattle.solver.specs.Setting.{setting, all_true, clauses_named}
 use Rattle.design.specs.Mark.{all_are_named}
 use Rattle.solver.specs.State.{Solving, Admits, holding}
 use Rattle.solver.specs.Calls.{Decided}
-use Rattle.store.specs.Coding.{encode_all}
-use Rattle.store.specs.Parts.{part, over, is_taken, held_of, meaning_of, Stored}
-use Rattle.store.specs.Long.{part_long}
-use Rattle.store.proofs.Over.{take_over, length_over, part_over}
-use Rattle.store.proofs.Clauses.{same_clauses}
+use Rattle.store.specs.Coding.{Sound, encode_all, clauses_in}
+use Rattle.store.specs.Parts.{part, is_taken, clauses_of, held_of, meaning_of, Stored}
+use Rattle.store.proofs.Over.{part_here}
+use Rattle.store.proofs.Encoded.{same_clauses, no_clauses, encode_none, named_none}
 use Rattle.store.proofs.Answering.{same_solving}
-use Rattle.values.specs.Partial.{setting_of, is_open, opens}
-use Rattle.sweeping.specs.declared.layout.Layout.{Layout}
-use Rattle.sweeping.specs.Trail.{values_in, clauses_at, Meets, Ready}
+use Rattle.values.specs.Partial.{is_open, opens}
+use Rattle.sweeping.specs.Trail.{Meets}
 use Rattle.sweeping.proofs.Pieces.{front_less, part_front}
-use Rattle.deciding.specs.Search.{Found, Lost}
-use Rattle.assuming.specs.Assumed.{SameFront, Prepared}
-use Rattle.deciding.specs.Concluding.{Concluded}
+use Rattle.deciding.specs.Concluding.{Answered, Concluded}
 
 open_le : (z : ℤ) → is_open z ≤ 1
 open_le (pos zero) = omega arith
@@ -28,6 +26,18 @@ opens_le : (v : List ℤ) → opens v ≤ length v
 unfolding opens
 opens_le [] = omega arith
 opens_le (x ∷ xs) = omega (arith, open_le x, opens_le xs)
+
+-- a store without clauses
+pub stored_none : (s : List ℤ) (m k : ℕ) → 1 ≤ m → m ≤ 32767 → k + 4 * m ≤ length s → Stored s 0 m k
+stored_none s m k a b h =
+    record {
+      some_choice = a;
+      few_choices = b;
+      low = omega arith;
+      high = h;
+      sound = ap encode_all (no_clauses s) ∙ encode_none;
+      named = ap (clauses_named m) (no_clauses s) ∙ named_none m;
+    }
 
 -- a store whose clause room is as it was
 pub stored_after : (s s' : List ℤ) (used m k : ℕ) → Stored s used m k → length s' ≡ length s → take k s' ≡ take k s → Stored s' used m k
@@ -42,57 +52,51 @@ stored_after s s' used m k st n e =
       named = ap (clauses_named m) c ∙ st.named;
     }
 
-module _ (l : Layout) (k : ℕ) (s : List ℤ) (ms : List ℤ) (st : Stored s l.used l.choices k) (lv : l.values ≡ k + 2 * l.choices) where
-  pub values_fit : l.values + l.choices ≤ length s
-  values_fit = omega (arith, st.high)
+-- an assignment to begin with
+pub room_at_first : (v t : List ℤ) → length v ≤ length t → 0 + opens v ≤ length t
+room_at_first v t h = omega (arith, opens_le v)
 
-  module _ (s₁ : List ℤ) (f : SameFront l s s₁) where
-    clauses_prepared : clauses_at s₁ l ≡ clauses_at s l
-    clauses_prepared = same_clauses s s₁ l.used l.values (omega (arith, st.low)) f.front
+pub no_marks : (n : ℕ) (t : List ℤ) → all_are_named n (take 0 t) ≡ true
+unfolding all_are_named
+no_marks n t = refl
 
-    pub ready_prepared : Ready s₁ l (k + l.choices)
-    ready_prepared =
-        let c = clauses_prepared in
-        let n = part_long s₁ l.values l.choices (omega (arith, st.high, f.long)) in
+-- the clauses in the first part of a store
+pub clauses_first : (s first : List ℤ) (used k : ℕ) → used ≤ k → first ≡ take k s → take used first ≡ take used s
+clauses_first s first used k h e = ap (take used) e ∙ take-take used k s h
+
+pub clauses_sound : (s first : List ℤ) (used m k : ℕ) → Stored s used m k → first ≡ take k s → Sound (take used first)
+unfolding clauses_of
+clauses_sound s first used m k st e = subst Sound (sym (clauses_first s first used k st.low e)) st.sound
+
+pub clauses_same : (s first : List ℤ) (used m k : ℕ) → Stored s used m k → first ≡ take k s → clauses_in (take used first) ≡ clauses_of s used
+unfolding clauses_of
+clauses_same s first used m k st e = ap clauses_in (clauses_first s first used k st.low e)
+
+-- the parts of a store once more, of which the first is as it was
+module _ (s : List ℤ) (used m k : ℕ) (ms first h rest : List ℤ) (st : Stored s used m k) (f : first ≡ take k s) (n : length h ≡ m) (long : length (first ++ (h ++ rest)) ≡ length s) where
+  held_is : part (first ++ (h ++ rest)) k m ≡ h
+  held_is = ap (λ x. part (x ++ (h ++ rest)) k m) f ∙ part_here s h rest k m (omega (arith, st.high)) n
+
+  front_is : take k (first ++ (h ++ rest)) ≡ take k s
+  front_is = take_at first (h ++ rest) k (ap length f ∙ length-take-le k s (omega (arith, st.high))) ∙ f
+
+  pub concluded : (r : Bool) → Answered (clauses_of s used) ms (part s k m) h r → Concluded s used m k ms (first ++ (h ++ rest)) r
+  unfolding part
+  concluded true a =
+      let e : map is_taken h ≡ held_of (first ++ (h ++ rest)) m k = ap (map is_taken) (sym held_is) in (
+        long,
+        front_is,
         record {
-          low = omega (arith, st.low);
-          high = omega (arith, opens_le (values_in s₁ l));
-          long = omega (arith, st.high, f.long);
-          few = st.few_choices;
-          sound = ap encode_all c ∙ (st.sound ∙ sym (front_less s s₁ l.values l.used f.front (omega (arith, st.low))));
-          named = ap (clauses_named l.choices) c ∙ st.named;
-        }
-
-    pub concluded_clash : Prepared ms l s₁ false → Concluded s l.used l.choices k ms s₁ false
-    concluded_clash n = (f.long, front_less s s₁ l.values (k + l.choices) f.front (omega arith), λ b a. n b a.assuming)
-
-    pub concluded_lost : (s₂ : List ℤ) → Prepared ms l s₁ true → Lost l s₁ (k + l.choices) s₂ → Concluded s l.used l.choices k ms s₂ false
-    concluded_lost s₂ p n = (
-      n.long ∙ f.long,
-      n.front ∙ front_less s s₁ l.values (k + l.choices) f.front (omega arith),
-      λ b a. n.none b (p.1 b a.assuming) (subst (λ cs. Meets cs b) (sym clauses_prepared) a.meeting),
-    )
-
-    pub concluded_found : (s₂ s₃ : List ℤ) → Prepared ms l s₁ true → Found l s₁ (k + l.choices) s₂ → s₃ ≡ over s₂ k (part s₂ l.values l.choices)
-        → Concluded s l.used l.choices k ms s₃ true
-    concluded_found s₂ s₃ p g e =
-        let fits : l.values + l.choices ≤ length s₂ = omega (arith, st.high, f.long, g.long) in
-        let n = part_long s₂ l.values l.choices fits in
-        let v = values_in s₂ l in
-        let h : held_of s₃ l.choices k ≡ setting_of v =
-        ap (λ x. held_of x l.choices k) e ∙ ap (map is_taken) (part_over s₂ k v l.choices (omega arith) (sym n)) in
-        let len : length s₃ ≡ length s₂ = ap length e ∙ length_over s₂ k (omega arith) v (omega arith) in
-        let a : Admits (meaning_of s l.used l.choices k) ms (setting_of v) =
-        record {
-          whole = length-map v is_taken ∙ n;
-          meeting = subst (λ cs. Meets cs (setting_of v)) clauses_prepared g.meeting;
-          assuming = p.0 (setting_of v) g.agrees;
-        } in (
-          len ∙ (g.long ∙ f.long),
-          ap (take k) e ∙ (take_over s₂ k (omega arith) v k (omega arith)
-              ∙ (front_less s₁ s₂ (k + l.choices) k g.front (omega arith) ∙ front_less s s₁ l.values k f.front (omega arith))),
-          subst (Admits (meaning_of s l.used l.choices k) ms) (sym h) a,
-        )
+          whole = ap length (sym e) ∙ (length-map h is_taken ∙ n);
+          meeting = subst (Meets (clauses_of s used)) e a.0;
+          assuming = subst (λ b. all_true (setting b) ms ≡ true) e a.1;
+        },
+      )
+  concluded false a = (
+    long,
+    take-add k m (first ++ (h ++ rest)) ∙ (ap (λ x. x ++ take m (drop k (first ++ (h ++ rest)))) front_is ∙ (ap (λ x. take k s ++ x) (held_is ∙ a.0) ∙ sym (take-add k m s))),
+    λ b x. a.1 b x.meeting x.assuming,
+  )
 
 pub concluded_stored : (s s' : List ℤ) (used m k : ℕ) (ms : List ℤ) (r : Bool) → Stored s used m k → Concluded s used m k ms s' r → Stored s' used m k
 concluded_stored s s' used m k ms true st c = stored_after s s' used m k st c.0 c.1

@@ -1,147 +1,76 @@
 -- Trials and the search about them.
-use Rattle.std.proofs.Common.{◌≡◌, ℕ, suc, ◌+◌, ◌-◌, ◌<◌, ◌≤◌, Bool, true, false, List, length, take, set, ℤ, pos, sym, refl, ap, ◌∙◌, subst, arith, length-set}
-use Rattle.std.proofs.lemmas.List.{take-set-le, set-set}
-use Rattle.design.specs.Mark.{named, bit_of}
-use Rattle.design.proofs.OfMarks.{bit_below}
-use Rattle.solver.specs.Setting.{setting, truth, clauses_named}
-use Rattle.store.specs.Coding.{encode_all}
+use Rattle.std.proofs.Common.{◌≡◌, ◌-◌, Bool, true, false, List, length, take, ℤ, sym, refl, ap, ◌∙◌, subst, arith, w16, SFits, to_z, of_z}
+use Rattle.solver.specs.Setting.{setting, truth}
 use Rattle.store.specs.Parts.{part}
-use Rattle.store.specs.Long.{part_long}
-use Rattle.values.specs.Partial.{value_that_holds, value_that_fails, Agrees, setting_of, is_open, opens, Opened}
-use Rattle.values.proofs.Agreeing.{agrees_self, agrees_for, agrees_against, agrees_unset, opens_set, set_back}
-use Rattle.sweeping.specs.declared.layout.Layout.{Layout}
-use Rattle.sweeping.specs.Trail.{values_in, clauses_at, reopened, Meets, Ready, Reached}
+use Rattle.values.specs.Partial.{value_that_holds, value_that_fails, Agrees, setting_of, opens, Opened}
+use Rattle.values.proofs.Agreeing.{agrees_self, for_open, against_open, fits_holding, fits_failing}
+use Rattle.sweeping.specs.declared.assignment.Assignment.{Assignment}
+use Rattle.sweeping.specs.Trail.{values_in, clauses_at, OpenIn, Meets, Given, reopened, Undone, Reached, Restored}
 use Rattle.sweeping.specs.Sweeps.{Nowhere}
-use Rattle.sweeping.proofs.Pieces.{part_set_in, part_front, front_less}
-use Rattle.sweeping.proofs.Reaching.{clauses_stay, ready_after}
+use Rattle.sweeping.proofs.Pieces.{front_less}
+use Rattle.sweeping.proofs.Reaching.{then_same, given_by, given_reached, undone_restored}
 use Rattle.deciding.specs.Search.{Found, Lost}
 
--- a store with one more value, at a mark's choice
-pub record Tried (l : Layout) (s : List ℤ) (top : ℕ) (m z : ℤ) (s₁ : List ℤ) : Type 0 where
-  pub long : length s₁ ≡ length s
-  pub front : take top s₁ ≡ take top s
-  pub value : values_in s₁ l ≡ set (values_in s l) (bit_of m) z
-
-module _ (l : Layout) (s : List ℤ) (top : ℕ) (m : ℤ) (r : Ready s l top) (o : Opened l.choices (values_in s l) m) where
-  below : bit_of m < l.choices
-  below = bit_below l.choices m o.names
-
-  values_long : length (values_in s l) ≡ l.choices
-  values_long = part_long s l.values l.choices r.long
-
-  within : named (length (values_in s l)) m ≡ true
-  within = ap (λ x. named x m) values_long ∙ o.names
-
-  pub inside : l.values + bit_of m < length s
-  inside = omega (arith, below, r.long)
-
-  pub first_tried : (z : ℤ) (p : ℕ) (y : ℤ) → p ≡ bit_of m → y ≡ z → Tried l s top m z (set s (l.values + p) y)
-  first_tried z p y e f =
-      record {
-        long = length-set s (l.values + p) y;
-        front = take-set-le top s (l.values + p) y (omega (arith, r.high));
-        value =
-            part_set_in s l.values l.choices p y (omega (arith, below))
-            ∙ (ap (λ x. set (values_in s l) x y) e ∙ ap (set (values_in s l) (bit_of m)) f);
-      }
-
-  -- after a search that lost, with another value
-  pub next_tried : (z z' : ℤ) (s₁ s₂ : List ℤ) (p : ℕ) (y : ℤ) → p ≡ bit_of m → y ≡ z' → Tried l s top m z s₁ → Lost l s₁ top s₂ → Tried l s top m z' (set s₂ (l.values + p) y)
-  next_tried z z' s₁ s₂ p y e f t n =
-      record {
-        long = length-set s₂ (l.values + p) y ∙ (n.long ∙ t.long);
-        front = take-set-le top s₂ (l.values + p) y (omega (arith, r.high)) ∙ (n.front ∙ t.front);
-        value =
-            part_set_in s₂ l.values l.choices p y (omega (arith, below))
-            ∙ (ap (λ x. set (values_in s₂ l) x y) e ∙ (ap (set (values_in s₂ l) (bit_of m)) f
-            ∙ (ap (λ x. set x (bit_of m) z') (n.same ∙ t.value) ∙ set-set (values_in s l) (bit_of m) z z')));
-      }
-
-  clauses_same : (z : ℤ) (s₁ : List ℤ) → Tried l s top m z s₁ → clauses_at s₁ l ≡ clauses_at s l
-  clauses_same z s₁ t = clauses_stay l s s₁ top r.low t.front
-
-  pub fewer : (z : ℤ) (s₁ : List ℤ) → is_open z ≡ 0 → Tried l s top m z s₁ → suc (opens (values_in s₁ l)) ≡ opens (values_in s l)
-  fewer z s₁ h t = ap (λ x. suc (opens x)) t.value ∙ opens_set (values_in s l) (bit_of m) z (omega (arith, below, values_long)) o.zero_there h
-
-  pub tried_ready : (z : ℤ) (s₁ : List ℤ) → is_open z ≡ 0 → Tried l s top m z s₁ → Ready s₁ l top
-  tried_ready z s₁ h t =
-      let e = clauses_same z s₁ t in
-      record {
-        low = r.low;
-        high = omega (arith, r.high, fewer z s₁ h t);
-        long = omega (arith, r.long, t.long);
-        few = r.few;
-        sound = ap encode_all e ∙ (r.sound ∙ sym (front_less s s₁ top l.used t.front r.low));
-        named = ap (clauses_named l.choices) e ∙ r.named;
-      }
-
-  pub tried_found : (z : ℤ) (s₁ s₂ : List ℤ) → Tried l s top m z s₁ → Found l s₁ top s₂ → Found l s top s₂
-  tried_found z s₁ s₂ t f =
-      record {
-        long = f.long ∙ t.long;
-        front = f.front ∙ t.front;
-        agrees = agrees_unset (values_in s l) (setting_of (values_in s₂ l)) (bit_of m) z o.zero_there (subst (λ x. Agrees x (setting_of (values_in s₂ l))) t.value f.agrees);
-        meeting = subst (λ cs. Meets cs (setting_of (values_in s₂ l))) (clauses_same z s₁ t) f.meeting;
-      }
-
-  none_tried : (z : ℤ) (s₁ s₂ : List ℤ) → Tried l s top m z s₁ → Lost l s₁ top s₂ → Nowhere (Meets (clauses_at s l)) (set (values_in s l) (bit_of m) z)
-  none_tried z s₁ s₂ t n b a g = n.none b (subst (λ x. Agrees x b) (sym t.value) a) (subst (λ cs. Meets cs b) (sym (clauses_same z s₁ t)) g)
-
-  -- neither value leads to a setting
-  pub both_lost : (s₁ s₂ s₃ s₄ : List ℤ) (p : ℕ) → p ≡ bit_of m → Tried l s top m (value_that_holds m) s₁ → Lost l s₁ top s₂ → Tried l s top m (value_that_fails m) s₃ → Lost l s₃ top s₄
-      → Lost l s top (set s₄ (l.values + p) (pos 0))
-  both_lost s₁ s₂ s₃ s₄ p e t n t' n' =
-      let q = next_tried (value_that_fails m) (pos 0) s₃ s₄ p (pos 0) e refl t' n' in
-      record {
-        long = q.long;
-        front = q.front;
-        same = q.value ∙ (sym (set-set (values_in s l) (bit_of m) (value_that_fails m) (pos 0)) ∙ set_back (values_in s l) (bit_of m) (value_that_fails m) o.zero_there);
-        none = λ b a g. either b a g (truth (setting b) m) refl;
-      }
-    where
-      either : (b : List Bool) → Agrees (values_in s l) b → Meets (clauses_at s l) b → (x : Bool) → truth (setting b) m ≡ x → ⊥
-      either b a g true e = none_tried (value_that_holds m) s₁ s₂ t n b (agrees_for (values_in s l) b m within e a) g
-      either b a g false e = none_tried (value_that_fails m) s₃ s₄ t' n' b (agrees_against (values_in s l) b m within e a) g
-
-module _ (l : Layout) (s : List ℤ) (base : ℕ) (s₁ : List ℤ) (top : ℕ) (r : Ready s l base) (p : Reached (Meets (clauses_at s l)) l s base s₁ top) where
+module _ (Good : List Bool → Type 0) (a b : Assignment) (p : Reached Good a b) where
   -- every clause is met
-  pub all_met : Meets (clauses_at s l) (setting_of (values_in s₁ l)) → Found l s base s₁
-  all_met e =
+  pub all_met : Meets (clauses_at a) (setting_of (values_in b)) → Found a b
+  all_met e = record { same = p.same; front = p.front; agrees = p.wider (setting_of (values_in b)) (agrees_self (values_in b)); meeting = e }
+
+  pub reached_found : (c : Assignment) → Found b c → Found a c
+  reached_found c f =
       record {
-        long = p.long;
-        front = p.front;
-        agrees = p.wider (setting_of (values_in s₁ l)) (agrees_self (values_in s₁ l));
-        meeting = e;
+        same = then_same a b c p.same f.same;
+        front = front_less b.trail.now c.trail.now b.top a.top f.front p.low ∙ p.front;
+        agrees = p.wider (setting_of (values_in c)) f.agrees;
+        meeting = subst (λ cs. Meets cs (setting_of (values_in c))) p.same.clauses f.meeting;
       }
 
-  pub reached_found : (s₂ : List ℤ) → Found l s₁ top s₂ → Found l s base s₂
-  reached_found s₂ f =
+  -- no good setting meets every clause where none does from what was reached
+  pub none_good : Nowhere (Meets (clauses_at b)) (values_in b) → (x : List Bool) → Agrees (values_in a) x → Good x → Meets (clauses_at a) x → ⊥
+  none_good n x h g m = n x (p.keeps x h g) (subst (λ cs. Meets cs x) (sym p.same.clauses) m)
+
+module _ (Good : List Bool → Type 0) (a b c : Assignment) (q : Restored a b) where
+  -- as if the steps after a trial that lost were the first
+  pub restored_reached : Reached Good b c → Reached Good a c
+  restored_reached p =
       record {
-        long = f.long ∙ p.long;
-        front = front_less s₁ s₂ top base f.front p.low ∙ p.front;
-        agrees = p.wider (setting_of (values_in s₂ l)) f.agrees;
-        meeting = subst (λ cs. Meets cs (setting_of (values_in s₂ l))) (clauses_stay l s s₁ base r.low p.front) f.meeting;
+        same = then_same a b c q.same p.same;
+        front = ap (λ n. take n c.trail.now) (sym q.top) ∙ (p.front ∙ (ap (λ n. take n b.trail.now) q.top ∙ q.front));
+        low = omega (arith, q.top, p.low);
+        count = omega (arith, q.top, p.count, ap opens q.values);
+        back = ap (λ n. reopened (values_in c) (part c.trail.now n (c.top - n))) (sym q.top) ∙ (p.back ∙ q.values);
+        wider = λ x h. subst (λ v. Agrees v x) q.values (p.wider x h);
+        keeps = λ x h g. p.keeps x (subst (λ v. Agrees v x) (sym q.values) h) g;
       }
 
-  none_reached : Nowhere (Meets (clauses_at s l)) (values_in s₁ l) → Nowhere (Meets (clauses_at s l)) (values_in s l)
-  none_reached n b a g = n b (p.keeps b a g) g
+pub restored_open : (a b : Assignment) (m : ℤ) → Restored a b → OpenIn a m → OpenIn b m
+restored_open a b m q o = subst (λ v. Opened (length v) v m) (sym q.values) o
 
-  pub top_low : top ≤ l.values
-  top_low = omega (arith, (ready_after (Meets (clauses_at s l)) l s base s₁ top r p).high)
+-- settings in which a mark is true, or false
+abbrev pub Takes : ℤ → Bool → List Bool → Type 0
+Takes m t x = truth (setting x) m ≡ t
 
-  -- nothing good from the values reached, and the trail undone
-  pub undone : (s₂ s₃ : List ℤ) → length s₂ ≡ length s₁ → take top s₂ ≡ take top s₁ → values_in s₂ l ≡ values_in s₁ l → Nowhere (Meets (clauses_at s l)) (values_in s₁ l)
-      → length s₃ ≡ length s₂ → take l.values s₃ ≡ take l.values s₂ → values_in s₃ l ≡ reopened (values_in s₂ l) (part s₂ base (top - base)) → Lost l s base s₃
-  undone s₂ s₃ e f v n e' f' v' =
-      let k : base + (top - base) ≤ top = omega (arith, p.low) in
-      let q = part_front s₁ s₂ top base (top - base) f k in
-      record {
-        long = e' ∙ (e ∙ p.long);
-        front = front_less s₂ s₃ l.values base f' (omega (arith, top_low, p.low)) ∙ (front_less s₁ s₂ top base f p.low ∙ p.front);
-        same = v' ∙ (ap (λ x. reopened x (part s₂ base (top - base))) v ∙ (ap (reopened (values_in s₁ l)) q ∙ p.back));
-        none = none_reached n;
-      }
+module _ (a b : Assignment) (m y : ℤ) (o : OpenIn a m) (f : SFits w16 m) (h : SFits w16 y) where
+  pub tried_true : y ≡ value_that_holds (to_z w16 (of_z w16 m)) → Given a (to_z w16 (of_z w16 m)) (to_z w16 (of_z w16 y)) b → Reached (Takes m true) a b
+  tried_true e g = given_reached (Takes m true) a b m (value_that_holds m) o (for_open m) (given_by value_that_holds a b m y f h e g) (λ x _ k. fits_holding x m k)
 
-  -- a trial that lost, for the clauses as they were
-  pub lost_none : (s₂ : List ℤ) → Lost l s₁ top s₂ → Nowhere (Meets (clauses_at s l)) (values_in s₁ l)
-  lost_none s₂ n b a g = n.none b a (subst (λ cs. Meets cs b) (sym (clauses_stay l s s₁ base r.low p.front)) g)
+  tried_against : y ≡ value_that_fails (to_z w16 (of_z w16 m)) → Given a (to_z w16 (of_z w16 m)) (to_z w16 (of_z w16 y)) b → Reached (Takes m false) a b
+  tried_against e g = given_reached (Takes m false) a b m (value_that_fails m) o (against_open m) (given_by value_that_fails a b m y f h e g) (λ x _ k. fits_failing x m k)
+
+-- the other value, after a trial that lost
+pub tried_false : (a b c : Assignment) (m y : ℤ) → Restored a b → OpenIn a m → SFits w16 m → SFits w16 y → y ≡ value_that_fails (to_z w16 (of_z w16 m))
+    → Given b (to_z w16 (of_z w16 m)) (to_z w16 (of_z w16 y)) c → Reached (Takes m false) a c
+tried_false a b c m y q o f h e g = restored_reached (Takes m false) a b c q (tried_against b c m y (restored_open a b m q o) f h e g)
+
+-- neither value leads to a setting
+pub both_lost : (a b c d : Assignment) (m : ℤ) → Reached (Takes m true) a b → Nowhere (Meets (clauses_at b)) (values_in b) → Reached (Takes m false) a c → Nowhere (Meets (clauses_at c)) (values_in c)
+    → Restored a d → Lost a d
+both_lost a b c d m p n p' n' q = record { restored = q; none = λ x h g. either x h g (truth (setting x) m) refl }
+  where
+    either : (x : List Bool) → Agrees (values_in a) x → Meets (clauses_at a) x → (t : Bool) → truth (setting x) m ≡ t → ⊥
+    either x h g true e = none_good (Takes m true) a b p n x h e g
+    either x h g false e = none_good (Takes m false) a c p' n' x h e g
+
+-- nothing good from the values reached, and the trail undone
+pub settled_lost : (a b c d : Assignment) → Reached (Meets (clauses_at a)) a b → Restored b c → Nowhere (Meets (clauses_at a)) (values_in b) → Undone c a.top d → Lost a d
+settled_lost a b c d p q n u = record { restored = undone_restored (Meets (clauses_at a)) a b c d p q u; none = λ x h g. n x (p.keeps x h g) g }

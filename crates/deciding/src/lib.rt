@@ -7,11 +7,13 @@ mod search;
 
 ghost use Rattle.std.specs.Prelude.{◌≡◌, ℕ, ◌+◌, ◌*◌, ◌≤◌, true, length};
 ghost use Rattle.design.specs.Mark.{all_are_named};
+ghost use Rattle.solver.specs.Setting.{clauses_named};
 ghost use Rattle.solver.specs.State.{blank};
 ghost use Rattle.solver.specs.Calls.{store_needed};
+ghost use Rattle.store.specs.Coding.{clauses_in};
 ghost use Rattle.store.specs.Parts.{Stored};
 ghost use Rattle.deciding.specs.Held.{kind_meaning, kept_of};
-ghost use Rattle.deciding.specs.Concluding.{Concluded};
+ghost use Rattle.deciding.specs.Concluding.{Answered, Concluded};
 
 use assuming::prepare;
 use design::SolverFault;
@@ -19,29 +21,60 @@ pub use kind::Kind;
 pub use search::Search;
 use solver::{Solver, all_named, check_clause};
 use std::marker::PhantomData;
-use store::{Sizes, Store, copy_down, zero};
-use sweeping::Layout;
+use store::{Clauses, Sizes, Store};
+use sweeping::Assignment;
 
 // Assumptions, the search and, where it finds one, the setting held.
+fn decide_over<S: Search>(
+    clauses: Clauses<'_>,
+    held: &mut [i16],
+    trail: &mut [i16],
+    values: &mut [i16],
+    assumptions: &[i16],
+) -> bool
+    requires few { length values.old ≤ 32767 }
+    requires held { length held.old ≡ length values.old }
+    requires trail { length values.old ≤ length trail.old }
+    requires clauses { clauses_named (length values.old) (clauses_in clauses.cells.now) ≡ true }
+    requires assumptions { all_are_named (length values.old) assumptions.now ≡ true }
+    ensures { Answered (clauses_in clauses.entry.cells.now) assumptions.now held.old held.new result }
+{
+    if !prepare(values, assumptions) {
+        return false;
+    }
+    let mut assignment = Assignment {
+        clauses,
+        trail,
+        values,
+        top: 0,
+    };
+    if !S::search(&mut assignment) {
+        return false;
+    }
+    let Assignment { values, .. } = assignment;
+    held.copy_from_slice(values);
+    true
+}
+
+// The same, over the parts of a store.
 fn decide_in<S: Search>(
-    store: &mut [i16],
-    layout: &Layout,
+    cells: &mut [i16],
+    used: usize,
+    choices: usize,
     room: usize,
     assumptions: &[i16],
 ) -> bool
-    requires stored { Stored store.old layout.now.used layout.now.choices room }
-    requires place { layout.now.values ≡ room + 2 * layout.now.choices }
-    requires named { all_are_named layout.now.choices assumptions.now ≡ true }
-    ensures { Concluded store.old layout.now.used layout.now.choices room assumptions.now store.new result }
+    requires stored { Stored cells.old used choices room }
+    requires named { all_are_named choices assumptions.now ≡ true }
+    ensures { Concluded cells.old used choices room assumptions.now cells.new result }
 {
-    if !prepare(store, layout, assumptions) {
-        return false;
-    }
-    if !S::search(store, layout, room + layout.choices) {
-        return false;
-    }
-    copy_down(store, layout.values, room, layout.choices);
-    true
+    let (clauses, rest) = cells.split_at_mut(room);
+    let (held, rest) = rest.split_at_mut(choices);
+    let (trail, rest) = rest.split_at_mut(choices);
+    let clauses = Clauses {
+        cells: &clauses[..used],
+    };
+    decide_over::<S>(clauses, held, trail, &mut rest[..choices], assumptions)
 }
 
 // The same, of a store with its clauses.
@@ -56,12 +89,7 @@ fn decide_by<S: Search>(
     ensures used { store.new.used ≡ store.old.used }
     ensures answer { Concluded store.old.cells.now store.old.used choices room assumptions.now store.new.cells.now result }
 {
-    let layout = Layout {
-        used: store.used,
-        choices: choices as usize,
-        values: room + 2 * choices as usize,
-    };
-    decide_in::<S>(store.cells, &layout, room, assumptions)
+    decide_in::<S>(store.cells, store.used, choices as usize, room, assumptions)
 }
 
 impl<'a, S> Kind<'a, S> {
@@ -72,7 +100,7 @@ impl<'a, S> Kind<'a, S> {
     {
         let choices = sizes.choices;
         let room = sizes.room;
-        zero(cells, room, choices as usize);
+        cells[room..room + choices as usize].fill(0);
         Kind {
             store: Store { cells, used: 0 },
             choices,

@@ -6,14 +6,14 @@ mod search;
 
 use deciding::{Kind, Search};
 use search::settle;
-use sweeping::Layout;
+use sweeping::Assignment;
 
 // The way of searching, by settling and trials.
 pub struct BySettling;
 
 impl Search for BySettling {
-    fn search(store: &mut [i16], layout: &Layout, base: usize) -> bool {
-        settle(store, layout, base)
+    fn search(assignment: &mut Assignment<'_>) -> bool {
+        settle(assignment)
     }
 }
 

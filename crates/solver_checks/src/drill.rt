@@ -2,54 +2,53 @@ use checks::random::Random;
 use deciding::{Kind, Search};
 use design::SolverFault;
 use solver::Solver;
+use std::alloc::{AllocError, Global};
 use store::check_store;
 
-// A clause, or assumptions, of at most three marks.
-#[derive(Clone, Copy)]
-struct Drawn {
-    marks: [i16; 3],
-    count: u8,
+// Why a drill ends without an answer.
+#[derive(Debug, Drop)]
+pub(crate) enum Failure {
+    Memory(AllocError),
+    Refused(SolverFault),
 }
 
-impl Drawn {
-    fn new(random: &mut Random, choices: u8) -> Drawn {
-        let mut marks = [0i16; 3];
-        for i in 0..3 {
-            marks[i] = i16::from(random.mark(choices, choices));
-        }
-        let count = match random.below(32) {
-            0 => 0,
-            1..=5 => 1,
-            6..=16 => 2,
-            _ => 3,
-        };
-        Drawn { marks, count }
+impl From<AllocError> for Failure {
+    fn from(fault: AllocError) -> Failure {
+        Failure::Memory(fault)
     }
+}
 
-    fn marks(&self) -> &[i16] {
-        &self.marks[0..(self.count as usize).min(3)]
+impl From<SolverFault> for Failure {
+    fn from(fault: SolverFault) -> Failure {
+        Failure::Refused(fault)
     }
+}
+
+// A clause, or assumptions, of at most three marks.
+fn draw_marks(heap: Global, random: &mut Random, choices: u8) -> Result<Vec<i16>, AllocError> {
+    let mut marks = vec![in heap; 0i16; 3]?;
+    for mark in marks.iter_mut() {
+        *mark = i16::from(random.mark(choices, choices));
+    }
+    marks.truncate(match random.below(32) {
+        0 => 0,
+        1..=5 => 1,
+        6..=16 => 2,
+        _ => 3,
+    });
+    Ok(marks)
 }
 
 // At most 40 clauses.
-#[derive(Clone, Copy)]
-struct Clauses {
-    drawn: [Drawn; 40],
-    count: u8,
-}
-
-impl Clauses {
-    fn new(random: &mut Random, choices: u8) -> Clauses {
-        let mut drawn = [Drawn {
-            marks: [0; 3],
-            count: 0,
-        }; 40];
-        let count = random.below(choices.min(8) * 5);
-        for i in 0..(count as usize).min(40) {
-            drawn[i] = Drawn::new(random, choices);
-        }
-        Clauses { drawn, count }
-    }
+fn draw_clauses(
+    heap: Global,
+    random: &mut Random,
+    choices: u8,
+) -> Result<Vec<Vec<i16>>, AllocError> {
+    let count = random.below(choices.min(8) * 5);
+    (0..count)
+        .map(|_| draw_marks(heap, random, choices))
+        .try_collect(heap)
 }
 
 // Whether a mark is true where the word has choice n as bit n - 1.
@@ -58,41 +57,14 @@ fn is_true(word: u16, mark: i16) -> bool {
     ((word >> bit) & 1 == 1) == (mark > 0)
 }
 
-fn some_true(word: u16, marks: &[i16]) -> bool {
-    for mark in marks {
-        if is_true(word, *mark) {
-            return true;
-        }
-    }
-    false
-}
-
-fn all_true(word: u16, marks: &[i16]) -> bool {
-    for mark in marks {
-        if !is_true(word, *mark) {
-            return false;
-        }
-    }
-    true
-}
-
-fn admits(word: u16, clauses: &Clauses, assumed: &[i16]) -> bool {
-    for i in 0..(clauses.count as usize).min(40) {
-        if !some_true(word, clauses.drawn[i].marks()) {
-            return false;
-        }
-    }
-    all_true(word, assumed)
+fn admits(word: u16, clauses: &[Vec<i16>], assumed: &[i16]) -> bool {
+    let met = |marks: &Vec<i16>| marks.iter().any(|mark| is_true(word, *mark));
+    clauses.iter().all(met) && assumed.iter().all(|mark| is_true(word, *mark))
 }
 
 // The full sweep.
-fn exists(choices: u8, clauses: &Clauses, assumed: &[i16]) -> bool {
-    for word in 0..1u16 << choices.min(12) {
-        if admits(word, clauses, assumed) {
-            return true;
-        }
-    }
-    false
+fn exists(choices: u8, clauses: &[Vec<i16>], assumed: &[i16]) -> bool {
+    (0..1u16 << choices.min(12)).any(|word| admits(word, clauses, assumed))
 }
 
 // The held setting, read choice by choice.
@@ -110,7 +82,7 @@ fn held<S: Solver>(solver: &S, choices: u8) -> Result<u16, SolverFault> {
 fn ask<S: Solver>(
     solver: &mut S,
     choices: u8,
-    clauses: &Clauses,
+    clauses: &[Vec<i16>],
     assumed: &[i16],
 ) -> Result<bool, SolverFault> {
     let before = held(solver, choices)?;
@@ -124,42 +96,53 @@ fn ask<S: Solver>(
     Ok(right && found == exists(choices, clauses, assumed))
 }
 
-fn enter<S: Solver>(solver: &mut S, clauses: &Clauses) -> Result<(), SolverFault> {
+fn enter<S: Solver>(solver: &mut S, clauses: &[Vec<i16>]) -> Result<(), SolverFault> {
     solver.clear();
-    for i in 0..(clauses.count as usize).min(40) {
-        solver.clause(clauses.drawn[i].marks())?;
+    for marks in clauses {
+        solver.clause(marks)?;
     }
     Ok(())
 }
 
 // New clauses after a clear, and some questions.
-fn round<S: Solver>(solver: &mut S, random: &mut Random, choices: u8) -> Result<bool, SolverFault> {
-    let clauses = Clauses::new(random, choices);
+fn round<S: Solver>(
+    heap: Global,
+    solver: &mut S,
+    random: &mut Random,
+    choices: u8,
+) -> Result<bool, Failure> {
+    let clauses = draw_clauses(heap, random, choices)?;
     enter(solver, &clauses)?;
     let mut right = true;
     for _ in 0..4 {
-        let assumed = Drawn::new(random, choices);
-        right &= ask(solver, choices, &clauses, assumed.marks())?;
+        let assumed = draw_marks(heap, random, choices)?;
+        right &= ask(solver, choices, &clauses, &assumed)?;
     }
     Ok(right)
 }
 
-fn rounds<S: Solver + Drop>(mut solver: S, choices: u8, times: u8) -> Result<bool, SolverFault> {
+fn rounds<S: Solver + Drop>(
+    heap: Global,
+    mut solver: S,
+    choices: u8,
+    times: u8,
+) -> Result<bool, Failure> {
     let mut random = Random::new(u64::from(choices));
     let mut right = true;
     for _ in 0..times {
-        right &= round(&mut solver, &mut random, choices)?;
+        right &= round(heap, &mut solver, &mut random, choices)?;
     }
     Ok(right)
 }
 
 // A solver of the kind that searches by K, over the cells, beside the full sweep.
 pub(crate) fn drill_kind<K: Search>(
+    heap: Global,
     cells: &mut [i16],
     choices: u8,
     times: u8,
-) -> Result<bool, SolverFault> {
+) -> Result<bool, Failure> {
     let sizes = check_store(u16::from(choices), 160, cells)?;
     let solver: Kind<'_, K> = Kind::new(sizes, cells);
-    rounds(solver, choices, times)
+    rounds(heap, solver, choices, times)
 }

@@ -3,14 +3,13 @@ use deciding::{Kind, Search};
 use design::SolverFault;
 use settling::BySettling;
 use solver::Solver;
+use std::alloc::Global;
 use stepping::ByStepping;
 use store::{Sizes, check_store};
 
+// The number of a refusal, or 0.
 fn number<T: Drop>(answer: Result<T, SolverFault>) -> u8 {
-    match answer {
-        Ok(_) => 0,
-        Err(fault) => fault.number(),
-    }
+    answer.err().map_or(0, SolverFault::number)
 }
 
 // M = 2 and K = 9, filled to the last number; then each refusal, in its order.
@@ -44,13 +43,11 @@ fn decides<S: Solver + Drop>(mut solver: S) -> Result<bool, SolverFault> {
 }
 
 fn refuses_by<K: Search>(cells: &mut [i16]) -> bool {
-    match check_store(2, 9, cells) {
-        Ok(sizes) => {
-            let solver: Kind<'_, K> = Kind::new(sizes, cells);
-            refuses(solver)
-        }
-        Err(_) => false,
-    }
+    let Ok(sizes) = check_store(2, 9, cells) else {
+        return false;
+    };
+    let solver: Kind<'_, K> = Kind::new(sizes, cells);
+    refuses(solver)
 }
 
 fn decides_by<K: Search>(cells: &mut [i16]) -> Result<bool, SolverFault> {
@@ -84,16 +81,16 @@ fn small_clauses_are_decided(rt: HostRuntime) {
 }
 
 // In a store of exactly 4 × M + K numbers.
-fn drilled<K: Search>(choices: u8) -> bool {
+fn drilled<K: Search>(heap: Global, choices: u8) -> bool {
     let mut cells = [0i16; 208];
     let long = (4 * choices as usize + 160).min(208);
-    drill_kind::<K>(&mut cells[0..long], choices, 30).unwrap_or(false)
+    drill_kind::<K>(heap, &mut cells[0..long], choices, 30).unwrap_or(false)
 }
 
 #[test]
 fn both_kinds_agree_with_the_sweep(rt: HostRuntime) {
     for choices in 1..13u8 {
-        assert!(rt; drilled::<BySettling>(choices));
-        assert!(rt; drilled::<ByStepping>(choices));
+        assert!(rt; drilled::<BySettling>(rt.alloc(), choices));
+        assert!(rt; drilled::<ByStepping>(rt.alloc(), choices));
     }
 }

@@ -1,17 +1,17 @@
 -- One choice more, with the value that it has or with either.
-use Rattle.std.proofs.Common.{◌≡◌, ℕ, zero, suc, ◌+◌, ◌<◌, ◌⊎◌, List, length, get_or, drop, set, ℤ, pos, negsuc, sym, refl, ap, ◌∙◌, subst, inl, inr, arith}
-use Rattle.std.proofs.lemmas.List.{get_or-set_same, get_or-set_other, get_or-take, get_or-drop}
-use Rattle.std.proofs.lemmas.Bool.{cases_eq, lt-ltb}
-use Rattle.store.specs.Parts.{part}
-use Rattle.store.specs.Long.{part_long}
-use Rattle.values.specs.Partial.{Agrees, setting_of, is_open, Opened}
-use Rattle.values.proofs.Agreeing.{agrees_self, agrees_unset}
-use Rattle.sweeping.specs.declared.layout.Layout.{Layout}
-use Rattle.sweeping.specs.Trail.{values_in, clauses_at, Meets, Ready}
-use Rattle.sweeping.specs.Sweeps.{Nowhere}
-use Rattle.sweeping.proofs.Reaching.{clauses_stay}
-use Rattle.deciding.specs.Search.{Found, Lost}
-use Rattle.deciding.proofs.Trying.{Tried}
+use Rattle.std.proofs.Common.{◌≡◌, ℕ, zero, suc, ◌+◌, ◌-◌, ◌<◌, ◌⊎◌, List, length, get_or, set, ℤ, pos, negsuc, sym, refl, ap, ◌∙◌, subst, inl, inr, true, false, ◌≤◌, arith, w16, to_z, lt-ltb, le-leb}
+use Rattle.std.proofs.lemmas.List.{get_or-set_same, get_or-set_other}
+use Rattle.std.proofs.lemmas.Bool.{cases_eq}
+use Rattle.std.proofs.lemmas.Int.{ints}
+use Rattle.design.specs.Mark.{bit_of}
+use Rattle.design.proofs.Truth.{both}
+use Rattle.values.specs.Partial.{Agrees, setting_of, is_open}
+use Rattle.values.proofs.Agreeing.{agrees_self, agrees_unset, fits_holding, fits_failing}
+use Rattle.sweeping.specs.declared.assignment.Assignment.{Assignment}
+use Rattle.sweeping.specs.Trail.{values_in, clauses_at, OpenIn, Given, Reached, Restored}
+use Rattle.sweeping.proofs.Reaching.{same_self, given_reached}
+use Rattle.deciding.specs.Search.{Found}
+use Rattle.deciding.proofs.Trying.{Takes, restored_reached, restored_open}
 use Rattle.stepping.specs.Steps.{Fixed, NoneBroken, MetBelow, Walked}
 use Rattle.stepping.proofs.Walking.{met_more, met_all, met_still}
 
@@ -25,48 +25,69 @@ fixed_more n v f o k h = by (cases_eq k n)
 fixed_set : (n : ℕ) (v : List ℤ) (z : ℤ) → Fixed n v → n < length v → is_open z ≡ 0 → Fixed (n + 1) (set v n z)
 fixed_set n v z f l o = fixed_more n (set v n z) (λ k h. ap is_open (get_or-set_other v n k z (pos 0) (λ e. absurd (omega (arith, e)))) ∙ f k h) (ap is_open (get_or-set_same v n z (pos 0) l) ∙ o)
 
--- what stands at a choice's place
-pub value_at : (s : List ℤ) (l : Layout) (n : ℕ) → n < l.choices → get_or (values_in s l) n (pos 0) ≡ get_or s (l.values + n) (pos 0)
-unfolding part
-value_at s l n h = get_or-take l.choices (drop l.values s) n (pos 0) h ∙ get_or-drop l.values s n (pos 0)
-
 pub not_open : (z : ℤ) → (z ≡ pos 0 → ⊥) → is_open z ≡ 0
 not_open (pos zero) h = absurd (h refl)
 not_open (pos (suc n)) h = refl
 not_open (negsuc n) h = refl
 
-module _ (s : List ℤ) (l : Layout) (top n : ℕ) (r : Ready s l top) (w : Walked s l n) (t : NoneBroken n (values_in s l) (clauses_at s l)) where
-  met : MetBelow (n + 1) (values_in s l) (clauses_at s l)
-  met = met_more n l.choices (values_in s l) (clauses_at s l) w.fixed r.named t w.met
+module _ (a : Assignment) (n : ℕ) (w : Walked a n) (t : NoneBroken n (values_in a) (clauses_at a)) where
+  met : MetBelow (n + 1) (values_in a) (clauses_at a)
+  met = met_more n _ (values_in a) (clauses_at a) w.fixed a.named t w.met
 
   -- the last choice has its value
-  pub arrived : n ≡ l.choices → Found l s top s
+  pub arrived : n ≡ length (values_in a) → Found a a
   arrived e =
-      let m = subst (λ k. MetBelow (k + 1) (values_in s l) (clauses_at s l)) e met in
+      let m = subst (λ k. MetBelow (k + 1) (values_in a) (clauses_at a)) e met in
       record {
-        long = refl;
+        same = same_self a;
         front = refl;
-        agrees = agrees_self (values_in s l);
-        meeting = met_all l.choices (values_in s l) (clauses_at s l) r.named m (setting_of (values_in s l)) (agrees_self (values_in s l));
+        agrees = agrees_self (values_in a);
+        meeting = met_all _ (values_in a) (clauses_at a) a.named m (setting_of (values_in a)) (agrees_self (values_in a));
       }
 
-  pub walked_on : n < l.choices → is_open (get_or (values_in s l) n (pos 0)) ≡ 0 → Walked s l (n + 1)
-  walked_on h o = record { low = omega arith; fixed = fixed_more n (values_in s l) w.fixed o; met = met }
+  pub walked_on : n < length (values_in a) → is_open (get_or (values_in a) n (pos 0)) ≡ 0 → Walked a (n + 1)
+  walked_on h o = record { low = omega arith; fixed = fixed_more n (values_in a) w.fixed o; met = met }
 
-  pub opened : n < l.choices → get_or s (l.values + n) (pos 0) ≡ pos 0 → Opened l.choices (values_in s l) (negsuc n)
-  opened h o = record { names = lt-ltb n l.choices h; zero_there = value_at s l n h ∙ o }
+-- the number of a choice as its mark
+mark_of : (k : ℕ) → k ≤ 32767 → to_z w16 k ≡ pos k
+mark_of k h = omega (arith, ints)
 
-  pub walked_tried : (z : ℤ) (s₁ : List ℤ) → n < l.choices → Opened l.choices (values_in s l) (negsuc n) → is_open z ≡ 0 → Tried l s top (negsuc n) z s₁ → Walked s₁ l (n + 1)
-  walked_tried z s₁ h o e q =
-      let k = part_long s l.values l.choices r.long in
+module _ (a : Assignment) (n : ℕ) (w : Walked a n) (t : NoneBroken n (values_in a) (clauses_at a)) (h : n < length (values_in a)) (o : get_or (values_in a) n (pos 0) ≡ pos 0) where
+  there : n + 1 - 1 ≡ n
+  there = omega arith
+
+  mark : to_z w16 (n + 1) ≡ pos (n + 1)
+  mark = mark_of (n + 1) (omega (arith, a.few))
+
+  opened : OpenIn a (pos (n + 1))
+  opened =
       record {
-        low = omega arith;
-        fixed = subst (Fixed (n + 1)) (sym q.value) (fixed_set n (values_in s l) z w.fixed (omega (arith, k)) e);
-        met =
-            subst (MetBelow (n + 1) (values_in s₁ l)) (sym (clauses_stay l s s₁ top r.low q.front))
-            (met_still (n + 1) (values_in s l) (values_in s₁ l) (clauses_at s l) (λ b a. agrees_unset (values_in s l) b n z o.zero_there (subst (λ x. Agrees x b) q.value a)) met);
+        names = both _ _ (lt-ltb 0 (n + 1) (omega arith)) (le-leb (n + 1) (length (values_in a)) (omega arith));
+        zero_there = ap (λ k. get_or (values_in a) k (pos 0)) there ∙ o;
       }
 
--- a clause is broken
-pub broken_off : (s : List ℤ) (l : Layout) (top : ℕ) → Nowhere (Meets (clauses_at s l)) (values_in s l) → Lost l s top s
-broken_off s l top n = record { long = refl; front = refl; same = refl; none = n }
+  -- after a trial that lost
+  pub opened_again : (b : Assignment) → Restored a b → OpenIn b (to_z w16 (n + 1))
+  opened_again b q = rw mark (restored_open a b (pos (n + 1)) q opened)
+
+  -- first left
+  pub left : (b : Assignment) → Given a (to_z w16 (n + 1)) (negsuc 0) b → Reached (Takes (pos (n + 1)) false) a b
+  left b g = given_reached _ a b (pos (n + 1)) (negsuc 0) opened refl (rw mark at g) (λ x _ k. fits_failing x (pos (n + 1)) k)
+
+  -- then taken
+  pub taken : (b c : Assignment) → Restored a b → Given b (to_z w16 (n + 1)) (pos 1) c → Reached (Takes (pos (n + 1)) true) a c
+  taken b c q g =
+      restored_reached _ a b c q
+      (given_reached _ b c (pos (n + 1)) (pos 1) (restored_open a b (pos (n + 1)) q opened) refl (rw mark at g) (λ x _ k. fits_holding x (pos (n + 1)) k))
+
+  pub walked_given : (b c : Assignment) (z : ℤ) → Restored a b → is_open z ≡ 0 → Given b (to_z w16 (n + 1)) z c → Walked c (n + 1)
+  walked_given b c z q e g =
+      let v : values_in c ≡ set (values_in a) n z =
+      g.values ∙ (ap (λ m. set (values_in b) (bit_of m) z) mark ∙ (ap (λ k. set (values_in b) k z) there ∙ ap (λ x. set x n z) q.values)) in
+      record {
+        low = omega (arith, h, g.same.choices, q.same.choices);
+        fixed = subst (Fixed (n + 1)) (sym v) (fixed_set n (values_in a) z w.fixed h e);
+        met =
+            subst (MetBelow (n + 1) (values_in c)) (sym (g.same.clauses ∙ q.same.clauses))
+            (met_still (n + 1) (values_in a) (values_in c) (clauses_at a) (λ x k. agrees_unset (values_in a) x n z o (subst (λ y. Agrees y x) v k)) (met a n w t));
+      }

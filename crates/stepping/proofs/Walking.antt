@@ -1,5 +1,5 @@
 -- Clauses whose highest choice has a value are met or broken.
-use Rattle.std.proofs.Common.{◌≡◌, ℕ, zero, suc, ◌+◌, ◌<◌, ◌≤◌, max, Bool, true, ◌⊎◌, List, [], ◌∷◌, length, get_or, ℤ, pos, negsuc, sym, refl, ap, ◌∙◌, inl, inr, arith}
+use Rattle.std.proofs.Common.{◌≡◌, ℕ, zero, suc, ◌+◌, ◌<◌, ◌≤◌, max, Bool, true, false, Some, ◌⊎◌, List, [], ◌∷◌, length, get_or, ℤ, pos, negsuc, sym, refl, ap, ◌∙◌, inl, inr, arith}
 use Rattle.std.specs.List.{between}
 use Rattle.std.proofs.lemmas.List.{nil_from_length}
 use Rattle.std.proofs.lemmas.Slice.{first_rest}
@@ -7,7 +7,6 @@ use Rattle.std.proofs.lemmas.Bool.{and_parts, and_from, cases_lt}
 use Rattle.design.specs.Mark.{named, all_are_named, bit_of}
 use Rattle.design.proofs.OfMarks.{bit_below}
 use Rattle.solver.specs.Setting.{meets_all, clauses_named}
-use Rattle.values.specs.declared.Truth.TheVariants.{Yes, No}
 use Rattle.values.specs.declared.State.TheVariants.{Met, Broken}
 use Rattle.values.specs.Partial.{said, truth_in, with_open, by_truth, state_from, Agrees, is_open}
 use Rattle.sweeping.specs.Trail.{Meets}
@@ -23,7 +22,7 @@ pub highest_first : (ms : List ℤ) → 0 < length ms → highest ms ≡ max (su
 unfolding highest
 highest_first ms h = ap highest (first_rest ms (pos 0) h)
 
-has_value : (m z : ℤ) → is_open z ≡ 0 → (said m z ≡ Yes) ⊎ (said m z ≡ No)
+has_value : (m z : ℤ) → is_open z ≡ 0 → (said m z ≡ Some true) ⊎ (said m z ≡ Some false)
 has_value m (pos zero) h = absurd (omega arith)
 has_value (pos c) (pos (suc n)) h = inl refl
 has_value (pos c) (negsuc n) h = inr refl
@@ -35,7 +34,7 @@ unfolding highest state_from
 decided n v [] f h = inr refl
 decided n v (m ∷ ms) f h = by (has_value m (get_or v (bit_of m) (pos 0)) (f (bit_of m) (omega arith))) (decided n v ms f (omega arith))
   where
-    by : (truth_in v m ≡ Yes) ⊎ (truth_in v m ≡ No) → (state_from v Broken ms ≡ Met) ⊎ (state_from v Broken ms ≡ Broken) → (state_from v Broken (m ∷ ms) ≡ Met) ⊎ (state_from v Broken (m ∷ ms) ≡ Broken)
+    by : (truth_in v m ≡ Some true) ⊎ (truth_in v m ≡ Some false) → (state_from v Broken ms ≡ Met) ⊎ (state_from v Broken ms ≡ Broken) → (state_from v Broken (m ∷ ms) ≡ Met) ⊎ (state_from v Broken (m ∷ ms) ≡ Broken)
     by (inl e) r = inl (ap (λ t. by_truth t (state_from v Broken ms) (state_from v (with_open Broken m) ms)) e)
     by (inr e) (inl r) = inl (ap (λ t. by_truth t (state_from v Broken ms) (state_from v (with_open Broken m) ms)) e ∙ r)
     by (inr e) (inr r) = inr (ap (λ t. by_truth t (state_from v Broken ms) (state_from v (with_open Broken m) ms)) e ∙ r)

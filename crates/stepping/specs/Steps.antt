@@ -1,9 +1,9 @@
 -- Clauses by the choice that decides them.
-use Rattle.std.specs.Prelude.{◌≡◌, ℕ, suc, ◌<◌, ◌≤◌, max, Bool, true, false, List, [], ◌∷◌, ℤ, pos, ◌≢◌, slice_index_or}
+use Rattle.std.specs.Prelude.{◌≡◌, ℕ, suc, ◌<◌, ◌≤◌, max, Bool, true, false, List, [], ◌∷◌, length, ℤ, pos, ◌≢◌, slice_index_or}
 use Rattle.design.specs.Mark.{bit_of}
 use Rattle.values.specs.Partial.{is_open, state_from}
 use Rattle.values.specs.declared.State.TheVariants.{Broken}
-use Rattle.sweeping.specs.declared.layout.Layout.{Layout}
+use Rattle.sweeping.specs.declared.assignment.Assignment.{Assignment}
 use Rattle.sweeping.specs.Trail.{values_in, clauses_at, Meets}
 use Rattle.sweeping.specs.Sweeps.{MeetsOne, Everywhere, Nowhere}
 
@@ -33,12 +33,12 @@ MetBelow n v [] = Unit {0}
 MetBelow n v (c ∷ cs) = (highest c < n → Everywhere (MeetsOne c) v) × MetBelow n v cs
 
 -- what a test of the clauses that choice n decides says
-abbrev pub Tested : List ℤ → Layout → ℕ → Bool → Type 0
-Tested s l n true = NoneBroken n (values_in s l) (clauses_at s l)
-Tested s l n false = Nowhere (Meets (clauses_at s l)) (values_in s l)
+abbrev pub Tested : Assignment → ℕ → Bool → Type 0
+Tested a n true = NoneBroken n (values_in a) (clauses_at a)
+Tested a n false = Nowhere (Meets (clauses_at a)) (values_in a)
 
--- a store on the way through the choices, n of which are behind
-pub record Walked (s : List ℤ) (l : Layout) (n : ℕ) : Type 0 where
-  pub low : n ≤ l.choices
-  pub fixed : Fixed n (values_in s l)
-  pub met : MetBelow n (values_in s l) (clauses_at s l)
+-- values on the way through the choices, n of which are behind
+pub record Walked (a : Assignment) (n : ℕ) : Type 0 where
+  pub low : n ≤ length (values_in a)
+  pub fixed : Fixed n (values_in a)
+  pub met : MetBelow n (values_in a) (clauses_at a)

@@ -4,19 +4,16 @@
 
 mod walk;
 
-ghost use Rattle.sweeping.specs.Trail.{Ready};
-ghost use Rattle.deciding.specs.Search.{Searched};
-
 use deciding::{Kind, Search};
-use sweeping::Layout;
+use sweeping::Assignment;
 use walk::step;
 
 // The way of searching, by one choice after the other.
 pub struct ByStepping;
 
 impl Search for ByStepping {
-    fn search(store: &mut [i16], layout: &Layout, base: usize) -> bool {
-        step(store, layout, base, 0)
+    fn search(assignment: &mut Assignment<'_>) -> bool {
+        step(assignment, 0)
     }
 }
 

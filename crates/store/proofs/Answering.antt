@@ -1,18 +1,18 @@
 -- What the calls that every kind shares answer.
-use Rattle.std.proofs.Common.{◌≡◌, ℕ, zero, suc, ◌+◌, ◌-◌, ◌<◌, ◌≤◌, Bool, true, false, ltb, leb, List, ◌∷◌, map, length, get_or, take, drop, replicate, ℤ, pos, negsuc, Ok, Result, sym, refl, ap, ◌∙◌, arith}
+use Rattle.std.proofs.Common.{◌≡◌, ℕ, zero, suc, ◌+◌, ◌-◌, ◌<◌, ◌≤◌, Bool, true, false, ltb, leb, List, ◌∷◌, ◌++◌, map, length, get_or, take, drop, replicate, ℤ, pos, negsuc, Ok, Result, sym, refl, ap, ◌∙◌, arith}
 use lib.Signed.{lt_z}
 use lib.ListN.{get_or-map}
 use Rattle.std.proofs.lemmas.Bool.{lt-ltb, le-leb}
 use Rattle.std.proofs.lemmas.Bool.Decides.{nat_tests}
-use Rattle.std.proofs.lemmas.List.{get_or-take, get_or-drop}
+use Rattle.std.proofs.lemmas.List.{get_or-take, get_or-drop, length-replicate}
 use Rattle.design.specs.Mark.{all_are_named}
 use Rattle.design.specs.Rule.{rule_units}
 use Rattle.design.specs.declared.fault.SolverFault.{SolverFault}
 use Rattle.solver.specs.State.{Solving}
 use Rattle.solver.specs.Calls.{taken_answer}
 use Rattle.solver.specs.Checks.{clause_check}
-use Rattle.store.specs.Parts.{is_taken, part, held_of, over}
-use Rattle.store.proofs.Over.{part_over}
+use Rattle.store.specs.Parts.{is_taken, part, held_of}
+use Rattle.store.proofs.Over.{part_here}
 
 -- what a clause that is not refused fulfils
 pub record Passed (m k used : ℕ) (c : List ℤ) : Type 0 where
@@ -47,8 +47,9 @@ map_zero : (m : ℕ) → map is_taken (replicate m (pos 0)) ≡ replicate m fals
 map_zero zero = refl
 map_zero (suc m) = ap (λ x. false ∷ x) (map_zero m)
 
-pub held_zero : (s s' : List ℤ) (m k : ℕ) → k ≤ length s → m ≡ length (replicate m (pos 0)) → s' ≡ over s k (replicate m (pos 0)) → held_of s' m k ≡ replicate m false
-held_zero s s' m k h n e = ap (λ x. held_of x m k) e ∙ (ap (map is_taken) (part_over s k (replicate m (pos 0)) m h n) ∙ map_zero m)
+pub held_zero : (s h rest : List ℤ) (m k : ℕ) → k ≤ length s → h ≡ replicate m (pos 0) → held_of (take k s ++ (h ++ rest)) m k ≡ replicate m false
+held_zero s h rest m k l e =
+    ap (map is_taken) (part_here s h rest k m l (ap length e ∙ length-replicate m (pos 0)) ∙ e) ∙ map_zero m
 
 pub same_solving : (m k : ℕ) {cs ds : List (List ℤ)} {h g : List Bool} → cs ≡ ds → h ≡ g
     → ◌≡◌ {A = Solving} record { choices = m; room = k; clauses = cs; held = h } record { choices = m; room = k; clauses = ds; held = g }

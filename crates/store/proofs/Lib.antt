@@ -1,4 +1,4 @@
 pub mod Writing
 pub mod Over
-pub mod Clauses
+pub mod Encoded
 pub mod Answering

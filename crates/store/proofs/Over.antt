@@ -1,8 +1,7 @@
 -- A list with another written over it.
-use Rattle.std.proofs.Common.{◌≡◌, ℕ, ◌+◌, ◌-◌, ◌<◌, ◌≤◌, List, [], ◌∷◌, ◌++◌, length, get_or, take, drop, set, replicate, ℤ, pos, sym, refl, ap, ◌∙◌, append_assoc, arith, length-append}
-use Rattle.std.proofs.lemmas.List.{drop-drop, length-drop, take_at, drop_at, length-take-le, take-take, set_at, drop_more, take_more, get_or-drop, take-append-le, length_push, length-replicate, replicate_more, take-append-drop}
+use Rattle.std.proofs.Common.{◌≡◌, ℕ, ◌+◌, ◌-◌, ◌<◌, ◌≤◌, List, [], ◌∷◌, ◌++◌, length, get_or, take, drop, ℤ, pos, sym, refl, ap, ◌∙◌, append_assoc, arith, length-append}
+use Rattle.std.proofs.lemmas.List.{drop-drop, length-drop, take_at, drop_at, length-take-le, take_more, get_or-drop}
 use Rattle.store.specs.Parts.{over, part}
-use Rattle.store.specs.Long.{part_long}
 
 module _ {X : Type 0} (s : List X) (at : ℕ) (h : at ≤ length s) where
   front_long : (new : List X) → length (take at s ++ new) ≡ at + length new
@@ -10,10 +9,6 @@ module _ {X : Type 0} (s : List X) (at : ℕ) (h : at ≤ length s) where
 
   pub over_front : (new : List X) → over s at new ≡ (take at s ++ new) ++ drop (at + length new) s
   over_front new = sym (append_assoc (take at s) new (drop (at + length new) s))
-
-  pub take_over : (new : List X) (n : ℕ) → n ≤ at → take n (over s at new) ≡ take n s
-  take_over new n l =
-      take-append-le n (take at s) (new ++ drop (at + length new) s) (omega (arith, length-take-le at s h)) ∙ take-take n at s l
 
   pub take_over_all : (new : List X) (n : ℕ) → n ≡ at + length new → take n (over s at new) ≡ take at s ++ new
   take_over_all new n e = ap (take n) (over_front new) ∙ take_at (take at s ++ new) (drop (at + length new) s) n (front_long new ∙ sym e)
@@ -25,28 +20,6 @@ module _ {X : Type 0} (s : List X) (at : ℕ) (h : at ≤ length s) where
       ∙ (ap (drop (n - (at + length new))) (ap (drop (at + length new)) (over_front new) ∙ drop_at (take at s ++ new) (drop (at + length new) s) (at + length new) (front_long new))
       ∙ (drop-drop (n - (at + length new)) (at + length new) s ∙ ap (λ x. drop x s) e)))
 
-  pub length_over : (new : List X) → at + length new ≤ length s → length (over s at new) ≡ length s
-  length_over new l =
-      ap length (over_front new) ∙ simp (length-append, length-drop) (omega (arith, length-take-le at s h))
-
-  pub get_d_over : (new : List X) (j : ℕ) (d : X) → at + length new ≤ j → get_or (over s at new) j d ≡ get_or s j d
-  get_d_over new j d l =
-      let e : j + 0 ≡ j = omega arith in
-      sym (ap (λ x. get_or (over s at new) x d) e) ∙ (sym (get_or-drop j (over s at new) 0 d) ∙ (ap (λ x. get_or x 0 d) (drop_over new j l) ∙ (get_or-drop j s 0 d ∙ ap (λ x. get_or s x d) e)))
-
-  -- one more
-  pub over_more : (new : List X) (y : X) → at + length new < length s → set (over s at new) (at + length new) y ≡ over s at (new ++ y ∷ [])
-  over_more new y l =
-      let n = at + length new in
-      let e : at + length (new ++ y ∷ []) ≡ n + 1 = omega (arith, length_push new y) in
-      ap (λ x. set x n y) (over_front new ∙ ap (λ x. (take at s ++ new) ++ x) (drop_more s n y l))
-      ∙ (set_at (take at s ++ new) (get_or s n y) (drop (n + 1) s) y n (front_long new)
-      ∙ (append_assoc (take at s) new (y ∷ drop (n + 1) s)
-      ∙ ap (λ x. take at s ++ x) (sym (append_assoc new (y ∷ []) (drop (n + 1) s)) ∙ ap (λ x. (new ++ y ∷ []) ++ drop x s) (sym e))))
-
-pub over_none : {X : Type 0} (s : List X) (at : ℕ) → s ≡ over s at []
-over_none s at = let e : at + 0 ≡ at = omega arith in sym (take-append-drop at s) ∙ ap (λ x. take at s ++ drop x s) (sym e)
-
 pub part_none : (s : List ℤ) (from : ℕ) → part s from 0 ≡ []
 unfolding part
 part_none s from = refl
@@ -56,24 +29,7 @@ unfolding part
 part_more s from i h =
     take_more (drop from s) i (pos 0) (simp length-drop (omega arith)) ∙ ap (λ x. take i (drop from s) ++ x ∷ []) (get_or-drop from s i (pos 0))
 
-pub part_over : (s : List ℤ) (at : ℕ) (new : List ℤ) (n : ℕ) → at ≤ length s → n ≡ length new → part (over s at new) at n ≡ new
+-- the part behind the front
+pub part_here : (s h rest : List ℤ) (k m : ℕ) → k ≤ length s → length h ≡ m → part (take k s ++ (h ++ rest)) k m ≡ h
 unfolding part
-part_over s at new n h e =
-    ap (take n) (drop_at (take at s) (new ++ drop (at + length new) s) at (length-take-le at s h)) ∙ take_at new (drop (at + length new) s) n (sym e)
-
--- a loop that writes 0, and one that copies
-pub zero_more : (s : List ℤ) (at i : ℕ) → at + i < length s → set (over s at (replicate i (pos 0))) (at + i) (pos 0) ≡ over s at (replicate (i + 1) (pos 0))
-zero_more s at i h =
-    let n : length (replicate i (pos 0)) ≡ i = length-replicate i (pos 0) in
-    ap (λ x. set (over s at (replicate i (pos 0))) (at + x) (pos 0)) (sym n)
-    ∙ (over_more s at (omega arith) (replicate i (pos 0)) (pos 0) (omega arith) ∙ ap (over s at) (replicate_more i (pos 0)))
-
-pub copy_more : (s : List ℤ) (from to i : ℕ) (z : ℤ) → to + i ≤ from → from + i < length s → z ≡ get_or s (from + i) (pos 0)
-    → set (over s to (part s from i)) (to + i) z ≡ over s to (part s from (i + 1))
-copy_more s from to i z a h e =
-    let n : length (part s from i) ≡ i = part_long s from i (omega arith) in
-    ap (λ x. set (over s to (part s from i)) (to + x) z) (sym n)
-    ∙ (over_more s to (omega arith) (part s from i) z (omega arith) ∙ ap (over s to) (ap (λ x. part s from i ++ x ∷ []) e ∙ sym (part_more s from i h)))
-
-pub copy_reads : (s : List ℤ) (from to i : ℕ) → to + i ≤ from → from + i < length s → get_or (over s to (part s from i)) (from + i) (pos 0) ≡ get_or s (from + i) (pos 0)
-copy_reads s from to i a h = get_d_over s to (omega arith) (part s from i) (from + i) (pos 0) (omega (arith, part_long s from i (omega arith)))
+part_here s h rest k m l n = ap (take m) (drop_at (take k s) (h ++ rest) k (length-take-le k s l)) ∙ take_at h rest m n

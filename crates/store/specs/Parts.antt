@@ -47,7 +47,3 @@ pub record Stored (s : List ℤ) (used m k : ℕ) : Type 0 where
   pub high : k + 4 * m ≤ length s
   pub sound : encode_all (clauses_of s used) ≡ take used s
   pub named : clauses_named m (clauses_of s used) ≡ true
-
--- what is left of the clauses from a place on
-abbrev pub Left : List ℤ → ℕ → ℕ → List (List ℤ) → Type 0
-Left s used at todo = drop at (take used s) ≡ encode_all todo

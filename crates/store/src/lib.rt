@@ -2,16 +2,18 @@
 // numbers, the writing of clauses into it and their reading.
 #![tactic(auto)]
 
+mod clauses;
 mod sizes;
 mod store;
 
 ghost use Rattle.std.specs.Prelude.{length};
 ghost use Rattle.store.specs.Checking.{Checked};
 
+pub use clauses::Clauses;
 use design::SolverFault;
 pub use sizes::Sizes;
 use solver::check_making;
-pub use store::{Store, copy_down, marks_at, zero};
+pub use store::Store;
 
 // The checking call of a making. It only reads the store, so a refusal leaves it as it was.
 pub fn check_store(choices: u16, room: usize, cells: &[i16]) -> Result<Sizes, SolverFault>

@@ -1,6 +1,6 @@
-ghost use Rattle.std.specs.Prelude.{◌≡◌, ℕ, ◌+◌, ◌<◌, ◌≤◌, length, replicate, pos, slice_index_or, unsigned_abs};
+ghost use Rattle.std.specs.Prelude.{◌≡◌, ◌+◌, ◌<◌, ◌≤◌, length};
 ghost use Rattle.store.specs.Coding.{encode};
-ghost use Rattle.store.specs.Parts.{part, over};
+ghost use Rattle.store.specs.Parts.{over};
 
 // The lent numbers, and how many of them clauses take.
 #[derive(Drop)]
@@ -27,38 +27,6 @@ fn append(cells: &mut [i16], used: usize, marks: &[i16])
     ensures { cells.new ≡ over cells.old used (encode marks.now) }
 {
     write_clause(&mut cells[used..], marks);
-}
-
-// Opens, or leaves, each of `count` choices from a place on.
-pub fn zero(cells: &mut [i16], from: usize, count: usize)
-    requires { from + count ≤ length cells.old }
-    ensures { cells.new ≡ over cells.old from (replicate count (pos 0)) }
-{
-    for i in 0..count {
-        cells[from + i] = 0;
-    }
-}
-
-// Copies `count` numbers to a place further down.
-pub fn copy_down(cells: &mut [i16], from: usize, to: usize, count: usize)
-    requires apart { to + count ≤ from }
-    requires fits { from + count ≤ length cells.old }
-    ensures { cells.new ≡ over cells.old to (part cells.old from count) }
-{
-    for i in 0..count {
-        cells[to + i] = cells[from + i];
-    }
-}
-
-// The marks of the clause that begins at a place.
-pub fn marks_at(cells: &[i16], at: usize) -> &[i16]
-    requires here { at < length cells.now }
-    requires whole { at + 1 + unsigned_abs (slice_index_or cells.now at (pos 0)) ≤ length cells.now }
-    ensures { result.now ≡ part cells.now (at + 1) (unsigned_abs (slice_index_or cells.now at (pos 0))) }
-{
-    let from = at + 1;
-    let count = cells[at].unsigned_abs() as usize;
-    &cells[from..from + count]
 }
 
 impl Store<'_> {

@@ -1,5 +1,5 @@
 pub mod Pieces
+pub mod Undoing
 pub mod Reaching
 pub mod Visiting
-pub mod Undoing
 pub mod Going

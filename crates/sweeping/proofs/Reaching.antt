@@ -1,133 +1,110 @@
 -- Steps of settling: none, one mark, and one after the other.
-use Rattle.std.proofs.Common.{◌≡◌, ℕ, ◌+◌, ◌-◌, ◌<◌, ◌≤◌, Bool, true, List, [], ◌∷◌, ◌++◌, length, get_or, take, set, ℤ, pos, sym, refl, ap, ◌∙◌, subst, arith, length-set}
-use Rattle.std.proofs.lemmas.List.{take-set-le, get_or-set_same, get_or-set_other}
-use Rattle.design.specs.Mark.{named, all_are_named, bit_of}
+use Rattle.std.proofs.Common.{◌≡◌, ◌+◌, ◌-◌, Bool, false, List, [], ◌∷◌, ◌++◌, get_or, take, set, ℤ, pos, sym, refl, ap, ◌∙◌, subst, arith, w16, SFits, to_z, of_z}
+use Rattle.std.proofs.lemmas.List.{take-set-le, get_or-set_same}
+use Rattle.std.proofs.lemmas.Int.{to_z-of_z}
+use Rattle.design.specs.Mark.{bit_of}
 use Rattle.design.proofs.OfMarks.{bit_below}
-use Rattle.solver.specs.Setting.{setting, truth, clauses_named}
-use Rattle.store.specs.Coding.{encode_all}
 use Rattle.store.specs.Parts.{part}
-use Rattle.store.specs.Long.{part_long}
 use Rattle.store.proofs.Over.{part_none, part_more}
-use Rattle.store.proofs.Clauses.{same_clauses}
-use Rattle.values.specs.Partial.{value_that_holds, Agrees, opens, Opened}
-use Rattle.values.proofs.Agreeing.{agrees_for, agrees_unset, opens_set, set_back, for_open}
-use Rattle.sweeping.specs.declared.layout.Layout.{Layout}
-use Rattle.sweeping.specs.Trail.{values_in, clauses_at, reopened, Ready, Reached}
-use Rattle.sweeping.proofs.Pieces.{part_set_in, part_set_below, part_front, front_less, part_sum, reopened_sum, reopened_none, reopened_one, named_sum, named_one, none_named}
+use Rattle.values.specs.Partial.{Fits, Agrees, is_open, opens}
+use Rattle.values.proofs.Agreeing.{agrees_set, agrees_unset, set_back}
+use Rattle.sweeping.specs.declared.assignment.Assignment.{Assignment}
+use Rattle.sweeping.specs.Trail.{values_in, marks_from, OpenIn, reopened, Same, Given, Undone, Restored, Reached}
+use Rattle.sweeping.proofs.Pieces.{part_front, front_less, part_sum}
+use Rattle.sweeping.proofs.Undoing.{reopened_sum, reopened_none, reopened_one, fewer, place_free}
 
-pub none_reached : (Good : List Bool → Type 0) (l : Layout) (s : List ℤ) (top : ℕ) → Reached Good l s top s top
-none_reached Good l s top =
-    let e : top - top ≡ 0 = omega arith in
-    let p : part s top (top - top) ≡ [] = ap (part s top) e ∙ part_none s top in
+pub same_self : (a : Assignment) → Same a a
+same_self a = record { clauses = refl; values = refl; choices = refl; trail = refl; long = refl }
+
+pub then_same : (a b c : Assignment) → Same a b → Same b c → Same a c
+then_same a b c p q =
+    record { clauses = q.clauses ∙ p.clauses; values = q.values ∙ p.values; choices = q.choices ∙ p.choices; trail = q.trail ∙ p.trail; long = q.long ∙ p.long }
+
+-- no mark lies between a place and itself
+marks_none : (a : Assignment) → marks_from a.top a ≡ []
+marks_none a = let e : a.top - a.top ≡ 0 = omega arith in ap (part a.trail.now a.top) e ∙ part_none a.trail.now a.top
+
+pub none_reached : (Good : List Bool → Type 0) (a : Assignment) → Reached Good a a
+none_reached Good a =
     record {
-      long = refl;
+      same = same_self a;
       front = refl;
       low = omega arith;
       count = refl;
-      named = ap (all_are_named l.choices) p ∙ none_named l.choices;
-      back = ap (reopened (values_in s l)) p ∙ reopened_none (values_in s l);
-      wider = λ b a. a;
-      keeps = λ b a g. a;
+      back = ap (reopened (values_in a)) (marks_none a) ∙ reopened_none (values_in a);
+      wider = λ x h. h;
+      keeps = λ x h g. h;
     }
 
-pub weaker : (Good Good' : List Bool → Type 0) (l : Layout) (s : List ℤ) (base : ℕ) (s' : List ℤ) (top : ℕ) → ((b : List Bool) → Good' b → Good b)
-    → Reached Good l s base s' top → Reached Good' l s base s' top
-weaker Good Good' l s base s' top f r =
-    record {
-      long = r.long;
-      front = r.front;
-      low = r.low;
-      count = r.count;
-      named = r.named;
-      back = r.back;
-      wider = r.wider;
-      keeps = λ b a g. r.keeps b a (f b g);
-    }
+pub weaker : (Good Good' : List Bool → Type 0) (a b : Assignment) → ((x : List Bool) → Good' x → Good x) → Reached Good a b → Reached Good' a b
+weaker Good Good' a b f r =
+    record { same = r.same; front = r.front; low = r.low; count = r.count; back = r.back; wider = r.wider; keeps = λ x h g. r.keeps x h (f x g) }
 
-pub then_reached : (Good : List Bool → Type 0) (l : Layout) (s : List ℤ) (base : ℕ) (s₁ : List ℤ) (mid : ℕ) (s₂ : List ℤ) (top : ℕ)
-    → Reached Good l s base s₁ mid → Reached Good l s₁ mid s₂ top → Reached Good l s base s₂ top
-then_reached Good l s base s₁ mid s₂ top p q =
-    let n : top - base ≡ (mid - base) + (top - mid) = omega (arith, p.low, q.low) in
-    let m : base + (mid - base) ≡ mid = omega (arith, p.low) in
-    let e : part s₂ base (top - base) ≡ part s₁ base (mid - base) ++ part s₂ mid (top - mid) =
-    ap (part s₂ base) n ∙ (part_sum s₂ base (mid - base) (top - mid)
-    ∙ (ap (λ x. part s₂ base (mid - base) ++ part s₂ x (top - mid)) m
-    ∙ ap (λ x. x ++ part s₂ mid (top - mid)) (part_front s₁ s₂ mid base (mid - base) q.front (omega arith)))) in
+pub then_reached : (Good : List Bool → Type 0) (a b c : Assignment) → Reached Good a b → Reached Good b c → Reached Good a c
+then_reached Good a b c p q =
+    let n : c.top - a.top ≡ (b.top - a.top) + (c.top - b.top) = omega (arith, p.low, q.low) in
+    let m : a.top + (b.top - a.top) ≡ b.top = omega (arith, p.low) in
+    let e : marks_from a.top c ≡ marks_from a.top b ++ marks_from b.top c =
+    ap (part c.trail.now a.top) n ∙ (part_sum c.trail.now a.top (b.top - a.top) (c.top - b.top)
+    ∙ (ap (λ x. part c.trail.now a.top (b.top - a.top) ++ part c.trail.now x (c.top - b.top)) m
+    ∙ ap (λ x. x ++ marks_from b.top c) (part_front b.trail.now c.trail.now b.top a.top (b.top - a.top) q.front (omega arith)))) in
     record {
-      long = q.long ∙ p.long;
-      front = front_less s₁ s₂ mid base q.front p.low ∙ p.front;
+      same = then_same a b c p.same q.same;
+      front = front_less b.trail.now c.trail.now b.top a.top q.front p.low ∙ p.front;
       low = omega (arith, p.low, q.low);
       count = q.count ∙ p.count;
-      named = ap (all_are_named l.choices) e ∙ named_sum l.choices (part s₁ base (mid - base)) (part s₂ mid (top - mid)) p.named q.named;
       back =
-          ap (reopened (values_in s₂ l)) e
-          ∙ (reopened_sum (values_in s₂ l) (part s₁ base (mid - base)) (part s₂ mid (top - mid))
-          ∙ (ap (λ x. reopened x (part s₁ base (mid - base))) q.back ∙ p.back));
-      wider = λ b a. p.wider b (q.wider b a);
-      keeps = λ b a g. q.keeps b (p.keeps b a g) g;
+          ap (reopened (values_in c)) e
+          ∙ (reopened_sum (values_in c) (marks_from a.top b) (marks_from b.top c)
+          ∙ (ap (λ x. reopened x (marks_from a.top b)) q.back ∙ p.back));
+      wider = λ x h. p.wider x (q.wider x h);
+      keeps = λ x h g. q.keeps x (p.keeps x h g) g;
     }
 
--- the clauses lie before the trail, so they stay
-pub clauses_stay : (l : Layout) (s s' : List ℤ) (n : ℕ) → l.used ≤ n → take n s' ≡ take n s → clauses_at s' l ≡ clauses_at s l
-clauses_stay l s s' n h e = same_clauses s s' l.used n h e
+-- where nothing moved the values are as they were
+pub still : (Good : List Bool → Type 0) (a b : Assignment) → Reached Good a b → b.top ≡ a.top → values_in b ≡ values_in a
+still Good a b r e = sym (reopened_none (values_in b)) ∙ (ap (reopened (values_in b)) (sym (marks_none b) ∙ ap (λ n. marks_from n b) e) ∙ r.back)
 
-pub ready_after : (Good : List Bool → Type 0) (l : Layout) (s : List ℤ) (base : ℕ) (s' : List ℤ) (top : ℕ) → Ready s l base → Reached Good l s base s' top → Ready s' l top
-ready_after Good l s base s' top r p =
-    let e = clauses_stay l s s' base r.low p.front in
+-- one value that is good
+pub given_reached : (Good : List Bool → Type 0) (a b : Assignment) (m z : ℤ) → OpenIn a m → is_open z ≡ 0 → Given a m z b
+    → ((x : List Bool) → Agrees (values_in a) x → Good x → Fits z (get_or x (bit_of m) false)) → Reached Good a b
+given_reached Good a b m z o w g f =
+    let v = values_in a in
+    let t = a.trail.now in
+    let free = place_free a m z (bit_of m) o w refl in
+    let d : b.top - a.top ≡ 0 + 1 = omega (arith, g.top) in
+    let s : a.top + 0 ≡ a.top = omega arith in
+    let there : get_or b.trail.now (a.top + 0) (pos 0) ≡ m =
+    ap (λ x. get_or b.trail.now x (pos 0)) s ∙ (ap (λ x. get_or x a.top (pos 0)) g.trail ∙ get_or-set_same t a.top m (pos 0) free) in
+    let p : marks_from a.top b ≡ m ∷ [] =
+    ap (part b.trail.now a.top) d ∙ (part_more b.trail.now a.top 0 (omega (arith, g.same.long, free))
+    ∙ (ap (λ x. x ++ get_or b.trail.now (a.top + 0) (pos 0) ∷ []) (part_none b.trail.now a.top) ∙ ap (λ x. x ∷ []) there)) in
     record {
-      low = omega (arith, r.low, p.low);
-      high = omega (arith, r.high, p.count);
-      long = omega (arith, r.long, p.long);
-      few = r.few;
-      sound = ap encode_all e ∙ (r.sound ∙ sym (front_less s s' base l.used p.front r.low));
-      named = ap (clauses_named l.choices) e ∙ r.named;
+      same = g.same;
+      front = ap (take a.top) g.trail ∙ take-set-le a.top t a.top m (omega arith);
+      low = omega (arith, g.top);
+      count = omega (arith, g.top, ap opens g.values, fewer a m z (bit_of m) o w refl);
+      back = ap (reopened (values_in b)) p ∙ (reopened_one (values_in b) m ∙ (ap (λ x. set x (bit_of m) (pos 0)) g.values ∙ set_back v (bit_of m) z o.zero_there));
+      wider = λ x h. agrees_unset v x (bit_of m) z o.zero_there (subst (λ y. Agrees y x) g.values h);
+      keeps = λ x h k. subst (λ y. Agrees y x) (sym g.values) (agrees_set v x (bit_of m) z (bit_below _ m o.names) (f x h k) h);
     }
 
--- where an open mark's value stands
-pub record Put (s : List ℤ) (l : Layout) (top : ℕ) (m : ℤ) : Type 0 where
-  pub below : bit_of m < l.choices
-  pub free : top < l.values
-  pub inside : l.values + bit_of m < length s
+-- the mark and the value that a call was given, by the value's function of the mark
+pub given_by : (f : ℤ → ℤ) (a b : Assignment) (m y : ℤ) → SFits w16 m → SFits w16 y → y ≡ f (to_z w16 (of_z w16 m)) → Given a (to_z w16 (of_z w16 m)) (to_z w16 (of_z w16 y)) b → Given a m (f m) b
+given_by f a b m y p q e g =
+    subst (λ x. Given a x (f x) b) (to_z-of_z w16 m p) (subst (λ z. Given a (to_z w16 (of_z w16 m)) z b) (to_z-of_z w16 y q ∙ e) g)
 
-pub put_place : (s : List ℤ) (l : Layout) (top : ℕ) (m : ℤ) → Ready s l top → Opened l.choices (values_in s l) m → Put s l top m
-put_place s l top m r o =
-    let i = bit_below l.choices m o.names in
-    let n = part_long s l.values l.choices r.long in
-    let k = opens_set (values_in s l) (bit_of m) (value_that_holds m) (omega arith) o.zero_there (for_open m) in
-    record { below = i; free = omega (arith, r.high); inside = omega (arith, r.long) }
+pub self_restored : (a : Assignment) → Restored a a
+self_restored a = record { same = same_self a; top = refl; front = refl; values = refl }
 
-pub put_reached : (Good : List Bool → Type 0) (l : Layout) (s s' : List ℤ) (top : ℕ) (m : ℤ) → Ready s l top → Opened l.choices (values_in s l) m
-    → s' ≡ set (set s top m) (l.values + bit_of m) (value_that_holds m)
-    → ((b : List Bool) → Agrees (values_in s l) b → Good b → truth (setting b) m ≡ true)
-    → Reached Good l s top s' (top + 1)
-put_reached Good l s s' top m r o e g =
-    let w = put_place s l top m r o in
-    let n = part_long s l.values l.choices r.long in
-    let nm : named (length (values_in s l)) m ≡ true = ap (λ x. named x m) n ∙ o.names in
-    let v : values_in s' l ≡ set (values_in s l) (bit_of m) (value_that_holds m) =
-    ap (λ x. values_in x l) e
-    ∙ (part_set_in (set s top m) l.values l.choices (bit_of m) (value_that_holds m) w.below
-    ∙ ap (λ x. set x (bit_of m) (value_that_holds m)) (part_set_below s l.values l.choices top m w.free)) in
-    let d : top + 1 - top ≡ 0 + 1 = omega arith in
-    let z : top + 0 ≡ top = omega arith in
-    let len : length s' ≡ length s = ap length e ∙ (length-set (set s top m) (l.values + bit_of m) (value_that_holds m) ∙ length-set s top m) in
-    let there : get_or s' top (pos 0) ≡ m =
-    ap (λ x. get_or x top (pos 0)) e
-    ∙ (get_or-set_other (set s top m) (l.values + bit_of m) top (value_that_holds m) (pos 0) (omega (arith, w.free))
-    ∙ get_or-set_same s top m (pos 0) (omega (arith, w.free, r.long))) in
-    let p : part s' top (top + 1 - top) ≡ m ∷ [] =
-    ap (part s' top) d ∙ (part_more s' top 0 (omega (arith, w.free, r.long))
-    ∙ (ap (λ x. x ++ get_or s' (top + 0) (pos 0) ∷ []) (part_none s' top) ∙ ap (λ x. x ∷ []) (ap (λ x. get_or s' x (pos 0)) z ∙ there))) in
-    let k = opens_set (values_in s l) (bit_of m) (value_that_holds m) (omega (arith, w.below)) o.zero_there (for_open m) in
+-- what was settled, with the trail cut back to where it was
+pub undone_restored : (Good : List Bool → Type 0) (a b c d : Assignment) → Reached Good a b → Restored b c → Undone c a.top d → Restored a d
+undone_restored Good a b c d p q u =
+    let marks : marks_from a.top c ≡ marks_from a.top b =
+    ap (λ n. part c.trail.now a.top (n - a.top)) q.top ∙ part_front b.trail.now c.trail.now b.top a.top (b.top - a.top) q.front (omega (arith, p.low)) in
     record {
-      long = len;
-      front = ap (take top) e ∙ (take-set-le top (set s top m) (l.values + bit_of m) (value_that_holds m) (omega (arith, w.free)) ∙ take-set-le top s top m (omega arith));
-      low = omega arith;
-      count = omega (arith, ap opens v, k);
-      named = ap (all_are_named l.choices) p ∙ named_one l.choices m o.names;
-      back =
-          ap (reopened (values_in s' l)) p
-          ∙ (reopened_one (values_in s' l) m ∙ (ap (λ x. set x (bit_of m) (pos 0)) v ∙ set_back (values_in s l) (bit_of m) (value_that_holds m) o.zero_there));
-      wider = λ b a. agrees_unset (values_in s l) b (bit_of m) (value_that_holds m) o.zero_there (subst (λ x. Agrees x b) v a);
-      keeps = λ b a h. subst (λ x. Agrees x b) (sym v) (agrees_for (values_in s l) b m nm (g b a h) a);
+      same = then_same a b d p.same (then_same b c d q.same u.same);
+      top = u.top;
+      front = ap (take a.top) u.trail ∙ (front_less b.trail.now c.trail.now b.top a.top q.front p.low ∙ p.front);
+      values = u.values ∙ (ap (λ x. reopened x (marks_from a.top c)) q.values ∙ (ap (reopened (values_in b)) marks ∙ p.back));
     }

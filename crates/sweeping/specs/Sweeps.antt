@@ -1,15 +1,10 @@
 -- What a sweep over the clauses finds.
-use Rattle.std.specs.Prelude.{◌≡◌, ℕ, ◌+◌, Bool, true, ◌⊎◌, List, ℤ, pos, negsuc, Some, None, Ok, Err, Option, Result, slice_index_or, unsigned_abs}
+use Rattle.std.specs.Prelude.{◌≡◌, ℕ, Bool, true, ◌⊎◌, List, length, ℤ, pos, negsuc, Some, None, Ok, Err, Option, Result}
 use Rattle.solver.specs.Setting.{setting, meets}
-use Rattle.store.specs.Parts.{part}
 use Rattle.values.specs.Partial.{Agrees, setting_of, Opened}
-use Rattle.sweeping.specs.declared.layout.Layout.{Layout}
-use Rattle.sweeping.specs.declared.layout.Sweep.{Sweep}
-use Rattle.sweeping.specs.Trail.{values_in, clauses_at, Meets, Reached}
-
--- the marks of the clause that begins at a place
-abbrev pub clause_at : List ℤ → ℕ → List ℤ
-clause_at s at = part s (at + 1) (unsigned_abs (slice_index_or s at (pos 0)))
+use Rattle.sweeping.specs.declared.assignment.Assignment.{Assignment}
+use Rattle.sweeping.specs.declared.assignment.Clash.{Clash}
+use Rattle.sweeping.specs.Trail.{values_in, clauses_at, OpenIn, Meets, Reached}
 
 abbrev pub MeetsOne : List ℤ → List Bool → Type 0
 MeetsOne c b = meets (setting b) c ≡ true
@@ -34,25 +29,21 @@ abbrev pub NotedOne : List ℤ → ℕ → List ℤ → Option ℤ → Option �
 NotedOne c n v before None = (before ≡ None) × MeetsOne c (setting_of v)
 NotedOne c n v before (Some m) = (before ≡ Some m) ⊎ Opened n v m
 
-abbrev pub Visited : List ℤ → Layout → ℕ → Sweep → List ℤ → Option Sweep → Type 0
-Visited s l at w s' None = (s' ≡ s) × Nowhere (MeetsOne (clause_at s at)) (values_in s l)
-Visited s l at w s' (Some w') =
-    Reached (MeetsOne (clause_at s at)) l s w.top s' w'.top
-    × (w'.top ≡ w.top → NotedOne (clause_at s at) l.choices (values_in s l) w.«open» w'.«open»)
+abbrev pub Visited : List ℤ → Assignment → Option ℤ → Assignment → Result (Option ℤ) Clash → Type 0
+Visited c a o b (Err e) = (b ≡ a) × Nowhere (MeetsOne c) (values_in a)
+Visited c a o b (Ok o') = Reached (MeetsOne c) a b × (b.top ≡ a.top → NotedOne c (length (values_in a)) (values_in a) o o')
 
 -- an open mark, or all clauses met with what is open left
-abbrev pub Noted : List (List ℤ) → ℕ → List ℤ → Option ℤ → Type 0
-Noted cs n v None = Meets cs (setting_of v)
-Noted cs n v (Some m) = Opened n v m
+abbrev pub Noted : List (List ℤ) → Assignment → Option ℤ → Type 0
+Noted cs a None = Meets cs (setting_of (values_in a))
+Noted cs a (Some m) = OpenIn a m
 
 -- a sweep: what is noted counts where nothing moved
-abbrev pub Swept : List ℤ → Layout → ℕ → List ℤ → Result Sweep ℕ → Type 0
-Swept s l start s' (Err top) = Reached (Meets (clauses_at s l)) l s start s' top × Nowhere (Meets (clauses_at s l)) (values_in s' l)
-Swept s l start s' (Ok w) =
-    Reached (Meets (clauses_at s l)) l s start s' w.top × (w.top ≡ start → Noted (clauses_at s l) l.choices (values_in s' l) w.«open»)
+abbrev pub Swept : Assignment → Assignment → Result (Option ℤ) Clash → Type 0
+Swept a b (Err e) = Reached (Meets (clauses_at a)) a b × Nowhere (Meets (clauses_at a)) (values_in b)
+Swept a b (Ok o) = Reached (Meets (clauses_at a)) a b × (b.top ≡ a.top → Noted (clauses_at a) b o)
 
 -- sweeps until nothing moves
-abbrev pub Settled : List ℤ → Layout → ℕ → List ℤ → Result Sweep ℕ → Type 0
-Settled s l base s' (Err top) = Reached (Meets (clauses_at s l)) l s base s' top × Nowhere (Meets (clauses_at s l)) (values_in s' l)
-Settled s l base s' (Ok w) =
-    Reached (Meets (clauses_at s l)) l s base s' w.top × Noted (clauses_at s l) l.choices (values_in s' l) w.«open»
+abbrev pub Settled : Assignment → Assignment → Result (Option ℤ) Clash → Type 0
+Settled a b (Err e) = Reached (Meets (clauses_at a)) a b × Nowhere (Meets (clauses_at a)) (values_in b)
+Settled a b (Ok o) = Reached (Meets (clauses_at a)) a b × Noted (clauses_at a) b o

@@ -1,126 +1,98 @@
-// Propagation in a store: sweeps over the clauses that give a value to each clause's last open mark,
-// a trail of the marks settled, and the way back along it.
+// Propagation in a partial assignment: sweeps over the clauses that give a value to each clause's last
+// open mark, a trail of the marks settled, and the way back along it.
 #![tactic(auto)]
 
-mod layout;
+mod assignment;
 
-ghost use Rattle.std.specs.Prelude.{◌≡◌, ℕ, ◌+◌, ◌-◌, ◌<◌, ◌≤◌, true, length, take, pos, slice_index_or, slice_set, unsigned_abs};
-ghost use Rattle.design.specs.Mark.{named, all_are_named, bit_of};
-ghost use Rattle.store.specs.Parts.{part};
-ghost use Rattle.values.specs.Partial.{value_that_holds, state_from};
+ghost use Rattle.std.specs.Prelude.{◌≡◌, ◌≤◌, true, length};
+ghost use Rattle.design.specs.Mark.{all_are_named};
+ghost use Rattle.values.specs.Partial.{is_open, state_from};
 ghost use Rattle.values.specs.declared.State.TheVariants.{Broken};
-ghost use Rattle.sweeping.specs.Trail.{values_in, reopened, Ready};
-ghost use Rattle.sweeping.specs.Sweeps.{clause_at, note, Visited, Swept, Settled};
+ghost use Rattle.sweeping.specs.Trail.{OpenIn, Given, Undone};
+ghost use Rattle.sweeping.specs.Sweeps.{note, Visited, Swept, Settled};
 
-pub use layout::{Layout, Sweep};
-use store::marks_at;
+pub use assignment::{Assignment, Clash};
 use values::{State, place, state_of, value_for};
-
-// Makes an open mark true, and puts it on the trail.
-fn assign(store: &mut [i16], layout: &Layout, top: usize, mark: i16)
-    requires { (top < length store.old) × (layout.now.values + bit_of mark < length store.old) }
-    ensures { store.new ≡ slice_set (slice_set store.old top mark) (layout.now.values + bit_of mark) (value_that_holds mark) }
-{
-    store[top] = mark;
-    store[layout.values + place(mark)] = value_for(mark);
-}
-
-// Opens the choices of the trail's last marks again.
-pub fn undo(store: &mut [i16], layout: &Layout, base: usize, top: usize)
-    requires low { base ≤ top }
-    requires high { top ≤ layout.now.values }
-    requires long { layout.now.values + layout.now.choices ≤ length store.old }
-    requires named { all_are_named layout.now.choices (part store.old base (top - base)) ≡ true }
-    ensures front { take layout.now.values store.new ≡ take layout.now.values store.old }
-    ensures values { values_in store.new layout.now ≡ reopened (values_in store.old layout.now) (part store.old base (top - base)) }
-{
-    let mut end = top;
-    while end > base {
-        end -= 1;
-        let at = layout.values + place(store[end]);
-        store[at] = 0;
-    }
-}
-
-// The state of the clause at a place, read where it stands.
-pub fn look(store: &[i16], layout: &Layout, at: usize) -> State
-    requires ready { layout.now.values + layout.now.choices ≤ length store.now }
-    requires here { at + 1 + unsigned_abs (slice_index_or store.now at (pos 0)) ≤ length store.now }
-    requires named { all_are_named layout.now.choices (clause_at store.now at) ≡ true }
-    ensures { result ≡ state_from (values_in store.now layout.now) Broken (clause_at store.now at) }
-{
-    let from = layout.values;
-    let values = &store[from..from + layout.choices];
-    state_of(values, marks_at(store, at))
-}
 
 // The open mark that a sweep notes: the first that asks for its choice to be taken. A clause with an
 // open mark that asks for its choice to be left is met where what is open is left.
 fn note(open: Option<i16>, mark: i16) -> Option<i16>
     ensures { result ≡ note «open» mark }
 {
-    match open {
-        Some(first) => Some(first),
-        None => { if mark < 0 { None } else { Some(mark) } }
-    }
+    open.or((mark >= 0).then_some(mark))
 }
 
-// One clause of a sweep; nothing where it clashes.
-fn visit(store: &mut [i16], layout: &Layout, at: usize, sweep: Sweep) -> Option<Sweep>
-    requires ready { Ready store.old layout.now sweep.top }
-    requires here { at + 1 + unsigned_abs (slice_index_or store.old at (pos 0)) ≤ layout.now.used }
-    requires named { all_are_named layout.now.choices (clause_at store.old at) ≡ true }
-    ensures { Visited store.old layout.now at sweep store.new result }
-{
-    match look(store, layout, at) {
-        State::Met => Some(sweep),
-        State::Broken => None,
-        State::Last(mark) => {
-            assign(store, layout, sweep.top, mark);
-            Some(Sweep {
-                top: sweep.top + 1,
-                open: sweep.open,
-            })
+impl Assignment<'_> {
+    // Gives a mark's open choice a value, and puts the mark on the trail.
+    pub fn set(&mut self, mark: i16, value: i16)
+        requires opened { OpenIn self.old mark }
+        requires valued { is_open value ≡ 0 }
+        ensures { Given self.old mark value self.new }
+    {
+        self.trail[self.top] = mark;
+        self.values[place(mark)] = value;
+        self.top += 1;
+    }
+
+    // Opens the choices of the trail's last marks again.
+    pub fn undo(&mut self, base: usize)
+        requires { base ≤ self.old.top }
+        ensures { Undone self.old base self.new }
+    {
+        let trail = &mut *self.trail;
+        let values = &mut *self.values;
+        for at in base..self.top {
+            values[place(trail[at])] = 0;
         }
-        State::Several(mark) => Some(Sweep {
-            top: sweep.top,
-            open: note(sweep.open, mark),
-        }),
+        self.top = base;
     }
-}
 
-// One sweep over the clauses; where one clashes, the end of the trail there.
-fn sweep_once(store: &mut [i16], layout: &Layout, start: usize) -> Result<Sweep, usize>
-    requires { Ready store.old layout.now start }
-    ensures { Swept store.old layout.now start store.new result }
-{
-    let mut sweep = Sweep {
-        top: start,
-        open: None,
-    };
-    let mut at = 0;
-    while at < layout.used {
-        let next = at + 1 + store[at].unsigned_abs() as usize;
-        let Some(further) = visit(store, layout, at, sweep) else {
-            return Err(sweep.top);
-        };
-        sweep = further;
-        at = next;
+    // The state of a clause.
+    pub fn look(&self, marks: &[i16]) -> State
+        requires { all_are_named (length self.now.values.now) marks.now ≡ true }
+        ensures { result ≡ state_from self.now.values.now Broken marks.now }
+    {
+        state_of(self.values, marks)
     }
-    Ok(sweep)
-}
 
-// Sweeps until nothing more follows, or a clause clashes.
-pub fn propagate(store: &mut [i16], layout: &Layout, base: usize) -> Result<Sweep, usize>
-    requires { Ready store.old layout.now base }
-    ensures { Settled store.old layout.now base store.new result }
-{
-    let mut top = base;
-    loop {
-        let sweep = sweep_once(store, layout, top)?;
-        if sweep.top == top {
-            return Ok(sweep);
+    // One clause of a sweep.
+    fn visit(&mut self, marks: &[i16], open: Option<i16>) -> Result<Option<i16>, Clash>
+        requires { all_are_named (length self.old.values.now) marks.now ≡ true }
+        ensures { Visited marks.now self.old «open» self.new result }
+    {
+        match self.look(marks) {
+            State::Met => Ok(open),
+            State::Broken => Err(Clash),
+            State::Last(mark) => {
+                self.set(mark, value_for(mark));
+                Ok(open)
+            }
+            State::Several(mark) => Ok(note(open, mark)),
         }
-        top = sweep.top;
+    }
+
+    // One sweep over the clauses; what it noted counts where it gave no value.
+    fn sweep_once(&mut self) -> Result<Option<i16>, Clash>
+        ensures { Swept self.old self.new result }
+    {
+        let mut open = None;
+        for marks in self.clauses {
+            open = self.visit(marks, open)?;
+        }
+        Ok(open)
+    }
+
+    // Sweeps until nothing more follows, or a clause clashes. What is left is an open mark of the first
+    // clause that would not be met with what is open left, if there is one.
+    pub fn propagate(&mut self) -> Result<Option<i16>, Clash>
+        ensures { Settled self.old self.new result }
+    {
+        loop {
+            let before = self.top;
+            let open = self.sweep_once()?;
+            if self.top == before {
+                return Ok(open);
+            }
+        }
     }
 }

@@ -1,14 +1,11 @@
 -- Settings that agree with values, and what those say of marks and clauses.
-use Rattle.std.proofs.Common.{◌≡◌, ℕ, zero, suc, ◌-◌, ◌<◌, Bool, true, false, not, ◌||◌, ◌⊎◌, List, [], ◌∷◌, length, get_or, set, ℤ, pos, negsuc, sym, refl, ap, ◌∙◌, subst, inl, inr, arith}
+use Rattle.std.proofs.Common.{Some, None, Option, ◌≡◌, ℕ, zero, suc, ◌-◌, ◌<◌, Bool, true, false, not, ◌||◌, ◌⊎◌, List, [], ◌∷◌, length, get_or, set, ℤ, pos, negsuc, sym, refl, ap, ◌∙◌, subst, inl, inr, arith}
 use lib.ListN.{get_or-map}
 use Rattle.std.proofs.lemmas.List.{get_or-set_same, get_or-set_other}
 use Rattle.std.proofs.lemmas.Bool.{and_parts, cases_eq}
 use Rattle.design.specs.Mark.{named, all_are_named, bit_of}
-use Rattle.design.proofs.OfMarks.{bit_below}
 use Rattle.solver.specs.Setting.{setting, truth, meets}
 use Rattle.store.specs.Parts.{is_taken}
-use Rattle.values.specs.declared.Truth.{Truth}
-use Rattle.values.specs.declared.Truth.TheVariants.{Yes, No, Open}
 use Rattle.values.specs.declared.State.{State}
 use Rattle.values.specs.declared.State.TheVariants.{Met, Broken, Last, Several}
 use Rattle.values.specs.Partial.{said, truth_in, value_that_holds, value_that_fails, first_left, with_open, by_truth, state_from, Fits, Agrees, setting_of, is_open, opens, Opened}
@@ -25,7 +22,7 @@ truth_sided b (negsuc k) = let e : suc k - 1 ≡ k = omega arith in ap (λ i. no
 clash : {P : Type 0} → ◌≡◌ {A = ℕ} 0 1 → P
 clash e = absurd (omega arith)
 
-side_yes : (m z : ℤ) (x : Bool) → Fits z x → said m z ≡ Yes → sided m x ≡ true
+side_yes : (m z : ℤ) (x : Bool) → Fits z x → said m z ≡ Some true → sided m x ≡ true
 side_yes (pos c) (pos zero) x f e = clash cc
 side_yes (pos c) (pos (suc n)) x f e = f
 side_yes (pos c) (negsuc n) x f e = clash cc
@@ -33,7 +30,7 @@ side_yes (negsuc k) (pos zero) x f e = clash cc
 side_yes (negsuc k) (pos (suc n)) x f e = clash cc
 side_yes (negsuc k) (negsuc n) x f e = ap not f
 
-side_no : (m z : ℤ) (x : Bool) → Fits z x → said m z ≡ No → sided m x ≡ false
+side_no : (m z : ℤ) (x : Bool) → Fits z x → said m z ≡ Some false → sided m x ≡ false
 side_no (pos c) (pos zero) x f e = clash cc
 side_no (pos c) (pos (suc n)) x f e = clash cc
 side_no (pos c) (negsuc n) x f e = f
@@ -42,13 +39,13 @@ side_no (negsuc k) (pos (suc n)) x f e = ap not f
 side_no (negsuc k) (negsuc n) x f e = clash cc
 
 -- what values say of a mark holds in every setting that agrees
-pub mark_yes : (v : List ℤ) (b : List Bool) (m : ℤ) → Agrees v b → truth_in v m ≡ Yes → truth (setting b) m ≡ true
+pub mark_yes : (v : List ℤ) (b : List Bool) (m : ℤ) → Agrees v b → truth_in v m ≡ Some true → truth (setting b) m ≡ true
 mark_yes v b m a e = truth_sided b m ∙ side_yes m (get_or v (bit_of m) (pos 0)) (get_or b (bit_of m) false) (a (bit_of m)) e
 
-pub mark_no : (v : List ℤ) (b : List Bool) (m : ℤ) → Agrees v b → truth_in v m ≡ No → truth (setting b) m ≡ false
+pub mark_no : (v : List ℤ) (b : List Bool) (m : ℤ) → Agrees v b → truth_in v m ≡ Some false → truth (setting b) m ≡ false
 mark_no v b m a e = truth_sided b m ∙ side_no m (get_or v (bit_of m) (pos 0)) (get_or b (bit_of m) false) (a (bit_of m)) e
 
-pub open_zero : (m z : ℤ) → said m z ≡ Open → z ≡ pos 0
+pub open_zero : (m z : ℤ) → said m z ≡ None → z ≡ pos 0
 open_zero m (pos zero) e = refl
 open_zero (pos c) (pos (suc n)) e = clash cc
 open_zero (pos c) (negsuc n) e = clash cc
@@ -88,12 +85,12 @@ more_open n v b x (Several k) m o h = opened_first n v k m h o
 -- one mark more in front, by its truth
 first_says : (n : ℕ) (v : List ℤ) (b : List Bool) → Agrees v b → (m : ℤ) (c : List ℤ) → named n m ≡ true
     → ((x : Bool) (s : State) → Says n v b x s → Says n v b (x || meets (setting b) c) (state_from v s c))
-    → (x : Bool) (s : State) → Says n v b x s → (t : Truth) → truth_in v m ≡ t
+    → (x : Bool) (s : State) → Says n v b x s → (t : Option Bool) → truth_in v m ≡ t
     → Says n v b (x || (truth (setting b) m || meets (setting b) c)) (by_truth t (state_from v s c) (state_from v (with_open s m) c))
-first_says n v b a m c w rest x s h Yes e = or_right_true x _ (ap (λ y. y || meets (setting b) c) (mark_yes v b m a e))
-first_says n v b a m c w rest x s h No e =
+first_says n v b a m c w rest x s h (Some true) e = or_right_true x _ (ap (λ y. y || meets (setting b) c) (mark_yes v b m a e))
+first_says n v b a m c w rest x s h (Some false) e =
     subst (λ y. Says n v b (x || (y || meets (setting b) c)) (state_from v s c)) (sym (mark_no v b m a e)) (rest x s h)
-first_says n v b a m c w rest x s h Open e =
+first_says n v b a m c w rest x s h None e =
     let o : Opened n v m = record { names = w; zero_there = open_zero m (get_or v (bit_of m) (pos 0)) e } in
     subst (λ y. Says n v b y (state_from v (with_open s m) c)) (or_swap x (truth (setting b) m) (meets (setting b) c))
     (rest (x || truth (setting b) m) (with_open s m) (more_open n v b x s m o h))
@@ -169,26 +166,8 @@ fits_against : (m : ℤ) (x : Bool) → sided m x ≡ false → Fits (value_that
 fits_against (pos c) x e = e
 fits_against (negsuc k) x e = not-false x e
 
--- a setting in which an open mark is true agrees with the values that make it so, and likewise
--- where it is false
-pub agrees_for : (v : List ℤ) (b : List Bool) (m : ℤ) → named (length v) m ≡ true → truth (setting b) m ≡ true → Agrees v b → Agrees (set v (bit_of m) (value_that_holds m)) b
-agrees_for v b m w t a = agrees_set v b (bit_of m) (value_that_holds m) (bit_below (length v) m w) (fits_for m (get_or b (bit_of m) false) (sym (truth_sided b m) ∙ t)) a
-
-pub agrees_against : (v : List ℤ) (b : List Bool) (m : ℤ) → named (length v) m ≡ true → truth (setting b) m ≡ false → Agrees v b → Agrees (set v (bit_of m) (value_that_fails m)) b
-agrees_against v b m w t a =
-    agrees_set v b (bit_of m) (value_that_fails m) (bit_below (length v) m w) (fits_against m (get_or b (bit_of m) false) (sym (truth_sided b m) ∙ t)) a
-
--- values that make a mark true, in a setting that agrees
-pub mark_for : (v : List ℤ) (b : List Bool) (m : ℤ) → named (length v) m ≡ true → Agrees (set v (bit_of m) (value_that_holds m)) b → truth (setting b) m ≡ true
-mark_for v b m w a =
-    truth_sided b m ∙ to m (get_or b (bit_of m) false) (subst (λ z. Fits z (get_or b (bit_of m) false)) (get_or-set_same v (bit_of m) (value_that_holds m) (pos 0) (bit_below (length v) m w)) (a (bit_of m)))
-  where
-    to : (m : ℤ) (x : Bool) → Fits (value_that_holds m) x → sided m x ≡ true
-    to (pos c) x f = f
-    to (negsuc k) x f = ap not f
-
 -- an open mark that says left is true in the values' own setting
-open_left : (v : List ℤ) (k : ℕ) → truth_in v (negsuc k) ≡ Open → truth (setting (setting_of v)) (negsuc k) ≡ true
+open_left : (v : List ℤ) (k : ℕ) → truth_in v (negsuc k) ≡ None → truth (setting (setting_of v)) (negsuc k) ≡ true
 open_left v k e =
     let z : get_or v k (pos 0) ≡ pos 0 = open_zero (negsuc k) (get_or v k (pos 0)) e in
     truth_sided (setting_of v) (negsuc k) ∙ ap not (get_or-map is_taken v k (pos 0) ∙ ap is_taken z)
@@ -205,7 +184,7 @@ LeftMet x (Several (negsuc k)) = x ≡ true
 or_left_true : (x y : Bool) → x ≡ true → (x || y) ≡ true
 or_left_true x y e = ap (λ z. z || y) e
 
-left_more : (v : List ℤ) (x : Bool) (s : State) (m : ℤ) → truth_in v m ≡ Open → LeftMet x s → LeftMet (x || truth (setting (setting_of v)) m) (with_open s m)
+left_more : (v : List ℤ) (x : Bool) (s : State) (m : ℤ) → truth_in v m ≡ None → LeftMet x s → LeftMet (x || truth (setting (setting_of v)) m) (with_open s m)
 left_more v x Met m e h = tt
 left_more v x Broken (pos c) e h = tt
 left_more v x Broken (negsuc k) e h = or_right_true x _ (open_left v k e)
@@ -217,12 +196,12 @@ left_more v x (Several (pos c)) (negsuc k) e h = or_right_true x _ (open_left v 
 left_more v x (Several (pos c)) (pos d) e h = tt
 
 left_first_mark : (v : List ℤ) (m : ℤ) (c : List ℤ) → ((x : Bool) (s : State) → LeftMet x s → LeftMet (x || meets (setting (setting_of v)) c) (state_from v s c))
-    → (x : Bool) (s : State) → LeftMet x s → (t : Truth) → truth_in v m ≡ t
+    → (x : Bool) (s : State) → LeftMet x s → (t : Option Bool) → truth_in v m ≡ t
     → LeftMet (x || (truth (setting (setting_of v)) m || meets (setting (setting_of v)) c)) (by_truth t (state_from v s c) (state_from v (with_open s m) c))
-left_first_mark v m c rest x s h Yes e = tt
-left_first_mark v m c rest x s h No e =
+left_first_mark v m c rest x s h (Some true) e = tt
+left_first_mark v m c rest x s h (Some false) e =
     subst (λ y. LeftMet (x || (y || meets (setting (setting_of v)) c)) (state_from v s c)) (sym (mark_no v (setting_of v) m (agrees_self v) e)) (rest x s h)
-left_first_mark v m c rest x s h Open e =
+left_first_mark v m c rest x s h None e =
     subst (λ y. LeftMet y (state_from v (with_open s m) c)) (or_swap x (truth (setting (setting_of v)) m) (meets (setting (setting_of v)) c))
     (rest (x || truth (setting (setting_of v)) m) (with_open s m) (left_more v x s m e h))
 
@@ -233,3 +212,10 @@ left_state v (m ∷ c) x s h = left_first_mark v m c (λ y t g. left_state v c y
 
 pub left_met : (v c : List ℤ) (k : ℕ) → state_from v Broken c ≡ Several (negsuc k) → meets (setting (setting_of v)) c ≡ true
 left_met v c k e = subst (LeftMet (meets (setting (setting_of v)) c)) e (left_state v c false Broken tt)
+
+-- a setting in which a mark is true or false fits the value that makes it so
+pub fits_holding : (b : List Bool) (m : ℤ) → truth (setting b) m ≡ true → Fits (value_that_holds m) (get_or b (bit_of m) false)
+fits_holding b m t = fits_for m (get_or b (bit_of m) false) (sym (truth_sided b m) ∙ t)
+
+pub fits_failing : (b : List Bool) (m : ℤ) → truth (setting b) m ≡ false → Fits (value_that_fails m) (get_or b (bit_of m) false)
+fits_failing b m t = fits_against m (get_or b (bit_of m) false) (sym (truth_sided b m) ∙ t)

@@ -1,12 +1,11 @@
 -- A clause taken apart as its first mark and the rest.
-use Rattle.std.proofs.Common.{◌≡◌, ℕ, ◌<◌, true, List, length, get_or, ℤ, pos, sym, ap, ◌∙◌}
+use Rattle.std.proofs.Common.{Option, Bool, ◌≡◌, ℕ, ◌<◌, true, List, length, get_or, ℤ, pos, sym, ap, ◌∙◌}
 use Rattle.std.specs.List.{between}
 use Rattle.std.proofs.lemmas.List.{nil_from_length}
 use Rattle.std.proofs.lemmas.Slice.{first_rest}
 use Rattle.std.proofs.lemmas.Bool.{and_parts}
 use Rattle.design.specs.Mark.{named, all_are_named}
 use Rattle.design.proofs.OfMarks.{all_first}
-use Rattle.values.specs.declared.Truth.{Truth}
 use Rattle.values.specs.declared.State.{State}
 use Rattle.values.specs.Partial.{truth_in, with_open, by_truth, state_from}
 
@@ -24,7 +23,7 @@ unfolding state_from
 state_first v ms s h = ap (state_from v s) (first_rest ms (pos 0) h)
 
 -- by the first mark's truth
-pub state_by : (v ms : List ℤ) (s : State) (t : Truth) → 0 < length ms → t ≡ truth_in v (get_or ms 0 (pos 0))
+pub state_by : (v ms : List ℤ) (s : State) (t : Option Bool) → 0 < length ms → t ≡ truth_in v (get_or ms 0 (pos 0))
     → state_from v s ms ≡ by_truth t (state_from v s (between 1 (length ms) ms)) (state_from v (with_open s (get_or ms 0 (pos 0))) (between 1 (length ms) ms))
 state_by v ms s t h e =
     state_first v ms s h

@@ -1,23 +1,21 @@
 -- Partial settings: a list of values, of which the one at n - 1 is for choice n. Above 0 is taken,
 -- below 0 left, and 0 open.
-use Rattle.std.specs.Prelude.{◌≡◌, ℕ, zero, suc, ◌+◌, Bool, true, false, List, [], ◌∷◌, map, get_or, ℤ, pos, negsuc, slice_index_or}
+use Rattle.std.specs.Prelude.{◌≡◌, ℕ, zero, suc, ◌+◌, Bool, true, false, List, [], ◌∷◌, map, get_or, ℤ, pos, negsuc, Some, None, Option, slice_index_or}
 use Rattle.design.specs.Mark.{bit_of, named}
 use Rattle.store.specs.Parts.{is_taken}
-use Rattle.values.specs.declared.Truth.{Truth}
-use Rattle.values.specs.declared.Truth.TheVariants.{Yes, No, Open}
 use Rattle.values.specs.declared.State.{State}
 use Rattle.values.specs.declared.State.TheVariants.{Met, Broken, Last, Several}
 
--- what a value says of a mark of its choice
-abbrev pub said : ℤ → ℤ → Truth
-said (pos c) (pos zero) = Open
-said (pos c) (pos (suc n)) = Yes
-said (pos c) (negsuc n) = No
-said (negsuc k) (pos zero) = Open
-said (negsuc k) (pos (suc n)) = No
-said (negsuc k) (negsuc n) = Yes
+-- whether a mark is true by a value of its choice, unless that is open
+abbrev pub said : ℤ → ℤ → Option Bool
+said (pos c) (pos zero) = None
+said (pos c) (pos (suc n)) = Some true
+said (pos c) (negsuc n) = Some false
+said (negsuc k) (pos zero) = None
+said (negsuc k) (pos (suc n)) = Some false
+said (negsuc k) (negsuc n) = Some true
 
-abbrev pub truth_in : List ℤ → ℤ → Truth
+abbrev pub truth_in : List ℤ → ℤ → Option Bool
 truth_in v m = said m (slice_index_or v (bit_of m) (pos 0))
 
 -- the value that makes a mark true, and the one that makes it false
@@ -43,10 +41,10 @@ with_open (Last k) m = Several (first_left k m)
 with_open (Several k) m = Several (first_left k m)
 
 -- by a mark's truth: met, or what the other marks say without it, or with it as an open one
-abbrev pub by_truth : Truth → State → State → State
-by_truth Yes without with = Met
-by_truth No without with = without
-by_truth Open without with = with
+abbrev pub by_truth : Option Bool → State → State → State
+by_truth (Some true) without with = Met
+by_truth (Some false) without with = without
+by_truth None without with = with
 
 -- what values say of a clause whose first marks came to a state
 unfoldable pub state_from : List ℤ → State → List ℤ → State

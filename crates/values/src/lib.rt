@@ -7,15 +7,8 @@ ghost use Rattle.design.specs.Mark.{named, all_are_named, bit_of};
 ghost use Rattle.values.specs.Partial.{said, truth_in, value_that_holds, value_that_fails, first_left, with_open, state_from};
 ghost use Rattle.values.specs.declared.State.TheVariants.{Broken};
 
-#[derive(Clone, Copy)]
-pub enum Truth {
-    Yes,
-    No,
-    Open,
-}
-
 // What values say of a clause.
-#[derive(Clone, Copy)]
+#[derive(Clone, Copy, PartialEq, Eq, Debug)]
 pub enum State {
     // A mark is true.
     Met,
@@ -46,22 +39,17 @@ pub fn value_for(mark: i16) -> i16
 pub fn value_against(mark: i16) -> i16
     ensures { result ≡ value_that_fails mark }
 {
-    if mark >= 0 { -1 } else { 1 }
+    -value_for(mark)
 }
 
-fn truth_by(mark: i16, value: i16) -> Truth
+// Whether a mark is true by its choice's value, unless the choice is open.
+fn truth_by(mark: i16, value: i16) -> Option<bool>
     ensures { result ≡ said mark value }
 {
-    if value == 0 {
-        Truth::Open
-    } else if (value > 0) == (mark >= 0) {
-        Truth::Yes
-    } else {
-        Truth::No
-    }
+    (value != 0).then_some((value > 0) == (mark >= 0))
 }
 
-pub fn truth_of(values: &[i16], mark: i16) -> Truth
+pub fn truth_of(values: &[i16], mark: i16) -> Option<bool>
     requires { named (length values.now) mark ≡ true }
     ensures { result ≡ truth_in values.now mark }
 {
@@ -99,9 +87,9 @@ pub fn state_of(values: &[i16], marks: &[i16]) -> State
             [] => return state,
             [first, rest @ ..] => {
                 match truth_of(values, *first) {
-                    Truth::Yes => return State::Met,
-                    Truth::No => {}
-                    Truth::Open => state = with_open(state, *first),
+                    Some(true) => return State::Met,
+                    Some(false) => {}
+                    None => state = with_open(state, *first),
                 }
                 left = rest;
             }

@@ -1,20 +1,27 @@
-use Rattle.deciding.proofs.Conclusions.{ready_prepared, concluded_clash, concluded_lost, concluded_found}
+use Rattle.std.proofs.Common.{◌≡◌, take, ap, ◌∙◌, subst, arith, ℤ, length-append, length-drop, length-take}
+use Rattle.std.proofs.lemmas.List.{length-take-le}
+use Rattle.store.specs.Parts.{part, clauses_of}
+use Rattle.deciding.specs.Concluding.{Answered}
+use Rattle.deciding.proofs.Conclusions.{clauses_sound, clauses_same, concluded}
 use Rattle.deciding.proofs.decide_in.Goals as goal
 
-pub returns-then-not-prepare : goal.returns-then-not-prepare
-returns-then-not-prepare g c =
-    concluded_clash c.args.layout.now c.args.room c.args.store.now c.args.assumptions.now c.requires.stored c.requires.place c.prepare.new.store c.prepare.ensures.front c.if-not-prepare.ensures.answer
+pub invariant_of-clauses : goal.invariant_of-clauses
+invariant_of-clauses g c = record { sound = clauses_sound c.args.cells.now _ c.args.used c.args.choices c.args.room c.requires.stored c.split_at_mut-clauses.ensures.front }
 
-pub search-requires : goal.search-requires
-search-requires g c =
-    ready_prepared c.args.layout.now c.args.room c.args.store.now c.args.assumptions.now c.requires.stored c.requires.place c.prepare.new.store c.prepare.ensures.front
-
-pub returns-then-not-search : goal.returns-then-not-search
-returns-then-not-search g c =
-    concluded_lost c.args.layout.now c.args.room c.args.store.now c.args.assumptions.now c.requires.stored c.requires.place c.prepare.new.store c.prepare.ensures.front
-    c.search.new.store c.if-not-prepare.ensures.answer c.if-not-search.ensures
+pub decide_over-requires-clause-clauses : goal.decide_over-requires-clause-clauses
+decide_over-requires-clause-clauses g c =
+    let e = clauses_same c.args.cells.now _ c.args.used c.args.choices c.args.room c.requires.stored c.split_at_mut-clauses.ensures.front in
+    let n = length-take-le c.args.choices c.split_at_mut-trail.result.1.now (omega arith) in
+    rw (n, e) c.requires.stored.named
 
 pub returns : goal.returns
+unfolding part
 returns g c =
-    concluded_found c.args.layout.now c.args.room c.args.store.now c.args.assumptions.now c.requires.stored c.requires.place c.prepare.new.store c.prepare.ensures.front
-    c.search.new.store c.copy_down.new.cells c.if-not-prepare.ensures.answer c.if-not-search.ensures c.copy_down.ensures
+    let s = c.args.cells.now in
+    let st = c.requires.stored in
+    let first = c.split_at_mut-clauses.ensures.front in
+    let e = clauses_same s _ c.args.used c.args.choices c.args.room st first in
+    let h : c.split_at_mut-held.result.0.now ≡ part s c.args.room c.args.choices = c.split_at_mut-held.ensures.front ∙ ap (take c.args.choices) c.split_at_mut-clauses.ensures.back in
+    concluded s c.args.used c.args.choices c.args.room c.args.assumptions.now _ c.decide_over.new.held _ st first (omega arith) (omega (arith, length-append {A = ℤ}, length-drop {A = ℤ}, length-take {A = ℤ})) c.decide_over.result
+    (subst (λ x. Answered (clauses_of s c.args.used) c.args.assumptions.now x c.decide_over.new.held c.decide_over.result) h
+    (subst (λ cs. Answered cs c.args.assumptions.now c.split_at_mut-held.result.0.now c.decide_over.new.held c.decide_over.result) e c.decide_over.ensures))

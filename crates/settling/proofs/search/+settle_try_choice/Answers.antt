@@ -1,158 +1,77 @@
-use Rattle.std.proofs.Common.{◌+◌, ◌-◌, ◌≤◌, set, sym, refl, ap, ◌∙◌, subst, arith, w16, SFits, to_z, of_z, rules}
+use Rattle.std.proofs.Common.{◌≡◌, ℕ, suc, true, false, arith, subst, w16, SFits, rules}
 use Rattle.std.proofs.lemmas.Int.{to_z-of_z}
-use Rattle.design.specs.Mark.{bit_of, all_are_named}
-use Rattle.values.specs.Partial.{value_that_holds, value_that_fails, opens, Opened}
-use Rattle.values.proofs.Agreeing.{for_open, against_open}
-use Rattle.sweeping.specs.Trail.{values_in, clauses_at, Meets}
-use Rattle.sweeping.specs.Sweeps.{Noted}
-use Rattle.sweeping.proofs.Pieces.{part_front}
-use Rattle.sweeping.proofs.Reaching.{ready_after}
-use Rattle.deciding.proofs.Trying.{first_tried, next_tried, fewer, tried_ready, tried_found, both_lost, all_met, reached_found, top_low, undone, lost_none}
+use Rattle.values.specs.Partial.{opens}
+use Rattle.sweeping.specs.Trail.{values_in, clauses_at, Meets, Undone, Reached, Restored}
+use Rattle.sweeping.specs.Sweeps.{Nowhere}
+use Rattle.sweeping.proofs.Reaching.{self_restored, undone_restored}
+use Rattle.deciding.proofs.Trying.{reached_found, restored_open, Takes, tried_true, tried_false, both_lost, settled_lost}
+use Rattle.settling.proofs.search.+settle_try_choice.Goals.{settle-in-Ok-Some+else-try_choice, settle-in-Err, try_choice-After-set, try_choice-After-value_against, try_choice-After-set-2}
 use Rattle.settling.proofs.search.+settle_try_choice.Goals as goal
-
-pub settle-try_choice-requires : goal.settle-try_choice-requires
-settle-try_choice-requires t c =
-    let l = c.args.layout.now in
-    let s = c.args.store.now in
-    let s₁ = c.propagate.new.store in
-    let p = c.in-Ok.ensures.0 in
-    let m = c.in-Some.mark in
-    let f : SFits w16 m = search rules in
-    let o : Opened l.choices (values_in s₁ l) m = subst (Noted (clauses_at s l) l.choices (values_in s₁ l)) c.in-Some.is c.in-Ok.ensures.1 in
-    let k : opens (values_in s₁ l) ≤ opens (values_in s l) = omega (arith, p.count, p.low) in (
-      search rules,
-      (
-        ready_after (Meets (clauses_at s l)) l s c.args.base s₁ c.in-Ok.sweep.top c.requires p,
-        subst (Opened l.choices (values_in s₁ l)) (sym (to_z-of_z w16 m f)) o,
-      ),
-    )
 
 pub settle-returns-then-try_choice : goal.settle-returns-then-try_choice
 settle-returns-then-try_choice t c =
-    reached_found c.args.layout.now c.args.store.now c.args.base c.propagate.new.store c.in-Ok.sweep.top c.requires c.in-Ok.ensures.0 c.try_choice.new.store c.if-try_choice.ensures
+    reached_found (Meets (clauses_at c.args.assignment.now)) c.args.assignment.now c.propagate.new.self c.in-Ok-Some.ensures.0 c.try_choice.new.assignment c.if-try_choice.ensures
 
-pub settle-undo-requires-in-Some : goal.settle-undo-requires-in-Some
-settle-undo-requires-in-Some t c =
-    let l = c.args.layout.now in
-    let p = c.in-Ok.ensures.0 in
-    let n = c.if-try_choice.ensures in
-    record {
-      low = p.low;
-      high = top_low l c.args.store.now c.args.base c.propagate.new.store c.in-Ok.sweep.top c.requires p;
-      long = omega (arith, c.requires.long, p.long, n.long);
-      named = ap (all_are_named l.choices) (part_front c.propagate.new.store c.try_choice.new.store c.in-Ok.sweep.top c.args.base (c.in-Ok.sweep.top - c.args.base) n.front (omega (arith, p.low))) ∙ p.named;
-    }
+pub settle-returns : goal.settle-returns
+settle-returns t c =
+    let a = c.args.assignment.now in
+    let s = c.propagate.new.self in
+    elim c.match-propagate.branch [
+      | settle-in-Ok-Some+else-try_choice w ↦
+          let p = w.in-Ok-Some.ensures.0 in
+          let u : Undone w.try_choice.new.assignment a.top c.undo.new.self = rw w.assignment-is at c.undo.ensures in
+          settled_lost a s w.try_choice.new.assignment c.undo.new.self p w.if-try_choice.ensures.restored
+          (subst (λ cs. Nowhere (Meets cs) (values_in s)) p.same.clauses w.if-try_choice.ensures.none) u
+      | settle-in-Err w ↦
+          let u : Undone s a.top c.undo.new.self = rw w.assignment-is at c.undo.ensures in
+          settled_lost a s s c.undo.new.self w.in-Err.ensures.0 (self_restored s) w.in-Err.ensures.1 u
+    ]
 
-pub settle-returns-in-Err : goal.settle-returns-in-Err
-settle-returns-in-Err t c =
-    let s₁ = c.propagate.new.store in
-    undone c.args.layout.now c.args.store.now c.args.base s₁ c.in-Err.top c.requires c.in-Err.ensures.0 s₁ c.undo.new.store
-    refl refl refl c.in-Err.ensures.1 c.undo.auto.store c.undo.ensures.front c.undo.ensures.values
+-- the mark made true
+first : (t : ℕ) (c : goal.try_choice-After-set t) → Reached (Takes c.args.mark true) c.args.assignment.now c.set.new.self
+first t c =
+    let h : SFits w16 c.value_for.result = search rules in
+    tried_true c.args.assignment.now c.set.new.self c.args.mark c.value_for.result c.requires c.ranges.mark h c.value_for.ensures c.set.ensures
 
-pub settle-returns-in-None : goal.settle-returns-in-None
-settle-returns-in-None t c =
-    let l = c.args.layout.now in
-    let s = c.args.store.now in
-    let s₁ = c.propagate.new.store in
-    all_met l s c.args.base s₁ c.in-Ok.sweep.top c.requires c.in-Ok.ensures.0 (subst (Noted (clauses_at s l) l.choices (values_in s₁ l)) c.in-None.is c.in-Ok.ensures.1)
+-- that undone
+back : (t : ℕ) (c : goal.try_choice-After-value_against t) → Restored c.args.assignment.now c.undo.new.self
+back t c =
+    undone_restored (Takes c.args.mark true) c.args.assignment.now c.set.new.self c.settle.new.assignment c.undo.new.self
+    (first t (goal.at.try_choice-set-requires-2-clause-opened t c).After-set) c.if-settle.ensures.restored c.undo.ensures
 
-pub settle-returns-else-try_choice : goal.settle-returns-else-try_choice
-settle-returns-else-try_choice t c =
-    let l = c.args.layout.now in
-    let s = c.args.store.now in
-    let s₁ = c.propagate.new.store in
-    let p = c.in-Ok.ensures.0 in
-    let n = c.if-try_choice.ensures in
-    undone l s c.args.base s₁ c.in-Ok.sweep.top c.requires p c.try_choice.new.store c.undo-in-Some.new.store
-    n.long n.front n.same (lost_none l s c.args.base s₁ c.in-Ok.sweep.top c.requires p c.try_choice.new.store n)
-    c.undo-in-Some.auto.store c.undo-in-Some.ensures.front c.undo-in-Some.ensures.values
+-- the mark made false
+second : (t : ℕ) (c : goal.try_choice-After-set-2 t) → Restored c.args.assignment.now c.undo.new.self → Reached (Takes c.args.mark false) c.args.assignment.now c.set-2.new.self
+second t c q =
+    let h : SFits w16 c.value_against.result = search rules in
+    tried_false c.args.assignment.now c.undo.new.self c.set-2.new.self c.args.mark c.value_against.result q c.requires c.ranges.mark h c.value_against.ensures c.set-2.ensures
 
 pub try_choice-settle-requires : goal.try_choice-settle-requires
 try_choice-settle-requires t c =
-    let l = c.args.layout.now in
-    let s = c.args.store.now in
-    let m = c.args.mark in
-    let e = to_z-of_z w16 m c.ranges.mark in
-    let at = c.place.ensures ∙ ap bit_of e in
-    let fv : SFits w16 c.value_for.result = search rules in
-    let y = to_z w16 (of_z w16 c.value_for.result) in
-    let ey = to_z-of_z w16 c.value_for.result fv ∙ (c.value_for.ensures ∙ ap value_that_holds e) in
-    let s₁ = set s (l.values + c.place.result) y in
-    let t₁ = first_tried l s c.args.top m c.requires.ready c.requires.opened (value_that_holds m) c.place.result y at ey in
-    let k = fewer l s c.args.top m c.requires.ready c.requires.opened (value_that_holds m) s₁ (for_open m) t₁ in
-    (search rules, tried_ready l s c.args.top m c.requires.ready c.requires.opened (value_that_holds m) s₁ (for_open m) t₁)
+    let p = first t (goal.at.try_choice-settle-requires t c).After-set in
+    let k : suc (opens c.set.new.self.values.now) ≡ opens c.args.assignment.now.values.now = omega (arith, p.count, c.set.ensures.top) in
+    search rules
 
 pub try_choice-returns-then-settle : goal.try_choice-returns-then-settle
 try_choice-returns-then-settle t c =
-    let l = c.args.layout.now in
-    let s = c.args.store.now in
-    let m = c.args.mark in
-    let e = to_z-of_z w16 m c.ranges.mark in
-    let at = c.place.ensures ∙ ap bit_of e in
-    let fv : SFits w16 c.value_for.result = search rules in
-    let y = to_z w16 (of_z w16 c.value_for.result) in
-    let ey = to_z-of_z w16 c.value_for.result fv ∙ (c.value_for.ensures ∙ ap value_that_holds e) in
-    let s₁ = set s (l.values + c.place.result) y in
-    let t₁ = first_tried l s c.args.top m c.requires.ready c.requires.opened (value_that_holds m) c.place.result y at ey in
-    tried_found l s c.args.top m c.requires.ready c.requires.opened (value_that_holds m) s₁ c.settle.new.store t₁ c.if-settle.ensures
+    reached_found (Takes c.args.mark true) c.args.assignment.now c.set.new.self (first t (goal.at.try_choice-returns-then-settle t c).After-set) c.settle.new.assignment c.if-settle.ensures
+
+pub try_choice-set-requires-2-clause-opened : goal.try_choice-set-requires-2-clause-opened
+try_choice-set-requires-2-clause-opened t c = rw (to_z-of_z w16 c.args.mark c.ranges.mark) (restored_open c.args.assignment.now c.undo.new.self c.args.mark (back t c) c.requires)
 
 pub try_choice-settle-requires-2 : goal.try_choice-settle-requires-2
 try_choice-settle-requires-2 t c =
-    let l = c.args.layout.now in
-    let s = c.args.store.now in
-    let m = c.args.mark in
-    let e = to_z-of_z w16 m c.ranges.mark in
-    let at = c.place.ensures ∙ ap bit_of e in
-    let fv : SFits w16 c.value_for.result = search rules in
-    let y = to_z w16 (of_z w16 c.value_for.result) in
-    let ey = to_z-of_z w16 c.value_for.result fv ∙ (c.value_for.ensures ∙ ap value_that_holds e) in
-    let s₁ = set s (l.values + c.place.result) y in
-    let t₁ = first_tried l s c.args.top m c.requires.ready c.requires.opened (value_that_holds m) c.place.result y at ey in
-    let fw : SFits w16 c.value_against.result = search rules in
-    let z = to_z w16 (of_z w16 c.value_against.result) in
-    let ez = to_z-of_z w16 c.value_against.result fw ∙ (c.value_against.ensures ∙ ap value_that_fails e) in
-    let s₂ = c.settle.new.store in
-    let s₃ = set s₂ (l.values + c.place.result) z in
-    let t₂ = next_tried l s c.args.top m c.requires.ready c.requires.opened (value_that_holds m) (value_that_fails m) s₁ s₂ c.place.result z at ez t₁ c.if-settle.ensures in
-    let k = fewer l s c.args.top m c.requires.ready c.requires.opened (value_that_fails m) s₃ (against_open m) t₂ in
-    (search rules, tried_ready l s c.args.top m c.requires.ready c.requires.opened (value_that_fails m) s₃ (against_open m) t₂)
+    let p = second t (goal.at.try_choice-settle-requires-2 t c).After-set-2 (back t (goal.at.try_choice-settle-requires-2 t c).After-value_against) in
+    let k : suc (opens c.set-2.new.self.values.now) ≡ opens c.args.assignment.now.values.now = omega (arith, p.count, c.undo.ensures.top, c.set-2.ensures.top) in
+    search rules
 
 pub try_choice-returns-then-settle-2 : goal.try_choice-returns-then-settle-2
 try_choice-returns-then-settle-2 t c =
-    let l = c.args.layout.now in
-    let s = c.args.store.now in
-    let m = c.args.mark in
-    let e = to_z-of_z w16 m c.ranges.mark in
-    let at = c.place.ensures ∙ ap bit_of e in
-    let fv : SFits w16 c.value_for.result = search rules in
-    let y = to_z w16 (of_z w16 c.value_for.result) in
-    let ey = to_z-of_z w16 c.value_for.result fv ∙ (c.value_for.ensures ∙ ap value_that_holds e) in
-    let s₁ = set s (l.values + c.place.result) y in
-    let t₁ = first_tried l s c.args.top m c.requires.ready c.requires.opened (value_that_holds m) c.place.result y at ey in
-    let fw : SFits w16 c.value_against.result = search rules in
-    let z = to_z w16 (of_z w16 c.value_against.result) in
-    let ez = to_z-of_z w16 c.value_against.result fw ∙ (c.value_against.ensures ∙ ap value_that_fails e) in
-    let s₂ = c.settle.new.store in
-    let s₃ = set s₂ (l.values + c.place.result) z in
-    let t₂ = next_tried l s c.args.top m c.requires.ready c.requires.opened (value_that_holds m) (value_that_fails m) s₁ s₂ c.place.result z at ez t₁ c.if-settle.ensures in
-    tried_found l s c.args.top m c.requires.ready c.requires.opened (value_that_fails m) s₃ c.settle-2.new.store t₂ c.if-settle-2.ensures
+    reached_found (Takes c.args.mark false) c.args.assignment.now c.set-2.new.self (second t (goal.at.try_choice-returns-then-settle-2 t c).After-set-2 (back t (goal.at.try_choice-returns-then-settle-2 t c).After-value_against)) c.settle-2.new.assignment c.if-settle-2.ensures
 
 pub try_choice-returns : goal.try_choice-returns
 try_choice-returns t c =
-    let l = c.args.layout.now in
-    let s = c.args.store.now in
-    let m = c.args.mark in
-    let e = to_z-of_z w16 m c.ranges.mark in
-    let at = c.place.ensures ∙ ap bit_of e in
-    let fv : SFits w16 c.value_for.result = search rules in
-    let y = to_z w16 (of_z w16 c.value_for.result) in
-    let ey = to_z-of_z w16 c.value_for.result fv ∙ (c.value_for.ensures ∙ ap value_that_holds e) in
-    let s₁ = set s (l.values + c.place.result) y in
-    let t₁ = first_tried l s c.args.top m c.requires.ready c.requires.opened (value_that_holds m) c.place.result y at ey in
-    let fw : SFits w16 c.value_against.result = search rules in
-    let z = to_z w16 (of_z w16 c.value_against.result) in
-    let ez = to_z-of_z w16 c.value_against.result fw ∙ (c.value_against.ensures ∙ ap value_that_fails e) in
-    let s₂ = c.settle.new.store in
-    let s₃ = set s₂ (l.values + c.place.result) z in
-    let t₂ = next_tried l s c.args.top m c.requires.ready c.requires.opened (value_that_holds m) (value_that_fails m) s₁ s₂ c.place.result z at ez t₁ c.if-settle.ensures in
-    both_lost l s c.args.top m c.requires.ready c.requires.opened s₁ s₂ s₃ c.settle-2.new.store c.place.result at t₁ c.if-settle.ensures t₂ c.if-settle-2.ensures
+    let a = c.args.assignment.now in
+    let p = first t (goal.at.try_choice-returns t c).After-set in
+    let p' = second t (goal.at.try_choice-returns t c).After-set-2 (back t (goal.at.try_choice-returns t c).After-value_against) in
+    both_lost a c.set.new.self c.set-2.new.self c.undo-2.new.self c.args.mark p c.if-settle.ensures.none p' c.if-settle-2.ensures.none
+    (undone_restored (Takes c.args.mark false) a c.set-2.new.self c.settle-2.new.assignment c.undo-2.new.self p' c.if-settle-2.ensures.restored c.undo-2.ensures)

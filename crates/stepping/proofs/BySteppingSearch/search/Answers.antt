@@ -6,6 +6,5 @@ use Rattle.stepping.proofs.BySteppingSearch.search.Goals as goal
 -- no choice is behind yet
 pub step-requires : goal.step-requires
 step-requires c =
-    let s = c.args.store.now in
-    let l = c.args.layout.now in
-    record { ready = c.requires; walked = record { low = omega arith; fixed = λ k h. absurd (omega arith); met = met_none (values_in s l) (clauses_at s l) } }
+    let a = c.args.assignment.now in
+    record { low = omega arith; fixed = λ k h. absurd (omega arith); met = met_none (values_in a) (clauses_at a) }

@@ -1,5 +1,5 @@
-use Rattle.std.proofs.Common.{◌-◌}
+use Rattle.std.proofs.Common.{◌-◌, length}
 use Rattle.stepping.proofs.walk.+step.Given as goal
 
 abbrev pub decreases-step : goal.decreases-step
-decreases-step l = l.layout.now.choices - l.count
+decreases-step l = length l.assignment.now.values.now - l.count

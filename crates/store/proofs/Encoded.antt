@@ -1,11 +1,11 @@
 -- Clauses in a store: reading them back, one more at the end, and the next from a place on.
-use Rattle.std.proofs.Common.{◌≡◌, ℕ, zero, suc, ◌+◌, ◌-◌, ◌<◌, ◌≤◌, true, List, [], ◌∷◌, ◌++◌, length, get_or, take, drop, ℤ, pos, nat_abs, sym, refl, ap, ◌∙◌, append_assoc, append-nil, arith, length-append}
-use Rattle.std.proofs.lemmas.List.{take_at, drop_at, length-take, length-take-le, length-drop, get_or-take, drop-drop, take-take, drop_more, drop_all, drop-take}
+use Rattle.std.proofs.Common.{◌≡◌, ℕ, zero, suc, ◌+◌, ◌≤◌, true, List, [], ◌∷◌, ◌++◌, length, take, drop, ℤ, pos, nat_abs, sym, refl, ap, ◌∙◌, subst, append_assoc, append-nil, arith, length-append}
+use Rattle.std.proofs.lemmas.List.{take_at, drop_at, length-take, take-take}
 use Rattle.std.proofs.lemmas.Bool.{and_parts, and_from}
 use Rattle.design.specs.Mark.{all_are_named}
 use Rattle.solver.specs.Setting.{clauses_named}
-use Rattle.store.specs.Coding.{encode, encode_all, decode, clauses_in}
-use Rattle.store.specs.Parts.{clauses_of, part, over, Left}
+use Rattle.store.specs.Coding.{encode, encode_all, decode, clauses_in, Sound}
+use Rattle.store.specs.Parts.{clauses_of, part, over}
 use Rattle.store.proofs.Over.{take_over_all, drop_over}
 
 pub decode_encode : (cs : List (List ℤ)) (f : ℕ) → length (encode_all cs) ≤ f → decode f (encode_all cs) ≡ cs
@@ -72,45 +72,30 @@ pub same_clauses : (s s' : List ℤ) (used n : ℕ) → used ≤ n → take n s'
 unfolding clauses_of
 same_clauses s s' used n h e = ap clauses_in (sym (take-take used n s' h) ∙ (ap (take used) e ∙ take-take used n s h))
 
--- what a place before the end begins with
-pub record Next (s : List ℤ) (used at : ℕ) (todo : List (List ℤ)) : Type 0 where
-  pub first : List ℤ
-  pub rest : List (List ℤ)
-  pub is : todo ≡ first ∷ rest
-  pub long : nat_abs (get_or s at (pos 0)) ≡ length first
-  pub fits : at + 1 + length first ≤ used
-  pub marks : part s (at + 1) (length first) ≡ first
-  pub left : Left s used (at + 1 + length first) rest
+pub no_clauses_in : (s : List ℤ) → length s ≡ 0 → clauses_in s ≡ []
+unfolding clauses_in decode
+no_clauses_in [] h = refl
+no_clauses_in (n ∷ s) h = absurd (omega arith)
 
-pub left_all : (s : List ℤ) (used : ℕ) → encode_all (clauses_of s used) ≡ take used s → Left s used 0 (clauses_of s used)
-left_all s used w = sym w
+-- whole clauses of which the first one's length, k, is taken off
+pub record TakenOff (s rest : List ℤ) (k : ℕ) : Type 0 where
+  pub fits : k ≤ length rest
+  pub left : clauses_in s ≡ take k rest ∷ clauses_in (drop k rest)
+  pub sound : Sound (drop k rest)
 
-pub left_none : (s : List ℤ) (used at : ℕ) (todo : List (List ℤ)) → Left s used at todo → used ≤ at → todo ≡ []
-unfolding encode_all
-left_none s used at [] l h = refl
-left_none s used at (c ∷ cs) l h =
-    absurd (let e = ap length (sym l ∙ drop_all at (take used s) (simp length-take (omega arith))) in omega arith)
-
-pub next : (s : List ℤ) (used at : ℕ) (todo : List (List ℤ)) → Left s used at todo → at < used → used ≤ length s → Next s used at todo
-unfolding encode_all part
-next s used at [] l h u = absurd (let e = ap length l in let k = length-drop at (take used s) in let k' = length-take-le used s u in omega arith)
-next s used at (c ∷ cs) l h u =
-    let k = length-take-le used s u in
-    let lt : at < length (take used s) = omega arith in
-    let d : drop at (take used s) ≡ get_or (take used s) at (pos 0) ∷ drop (at + 1) (take used s) = drop_more (take used s) at (pos 0) lt in
-    let e : get_or (take used s) at (pos 0) ∷ drop (at + 1) (take used s) ≡ pos (length c) ∷ (c ++ encode_all cs) = sym d ∙ l in
-    let z : get_or (take used s) at (pos 0) ≡ pos (length c) = cc in
-    let r : drop (at + 1) (take used s) ≡ c ++ encode_all cs = cc in
-    let n : length c + length (encode_all cs) ≡ used - (at + 1) = sym (length-append c (encode_all cs)) ∙ (ap length (sym r) ∙ simp length-drop (omega arith)) in
-    let f : at + 1 + length c ≤ used = omega arith in
-    let j : at + 1 + (used - (at + 1)) ≡ used = omega arith in
-    let q : take (used - (at + 1)) (drop (at + 1) s) ≡ c ++ encode_all cs = sym (drop-take (at + 1) (used - (at + 1)) s) ∙ (ap (λ x. drop (at + 1) (take x s)) j ∙ r) in
+pub taken_off : (s : List ℤ) (n : ℤ) (rest : List ℤ) (k : ℕ) → Sound s → s ≡ n ∷ rest → k ≡ nat_abs n → TakenOff s rest k
+unfolding clauses_in decode encode_all
+taken_off s n rest k w i h =
+    let c = take (nat_abs n) rest in
+    let cs = decode (length rest) (drop (nat_abs n) rest) in
+    let w' : Sound (n ∷ rest) = subst Sound i w in
+    let z : n ≡ pos (length c) = cc in
+    let r : c ++ encode_all cs ≡ rest = cc in
+    let l : k ≡ length c = h ∙ ap nat_abs z in
+    let d : drop k rest ≡ encode_all cs = ap (drop k) (sym r) ∙ (ap (λ x. drop x (c ++ encode_all cs)) l ∙ drop_at c (encode_all cs) (length c) refl) in
+    let e : clauses_in (drop k rest) ≡ cs = ap clauses_in d ∙ decode_encode cs (length (encode_all cs)) (omega arith) in
     record {
-      first = c;
-      rest = cs;
-      is = refl;
-      long = ap nat_abs (sym (get_or-take used s at (pos 0) h) ∙ z);
-      fits = f;
-      marks = sym (take-take (length c) (used - (at + 1)) (drop (at + 1) s) (omega arith)) ∙ (ap (take (length c)) q ∙ take_at c (encode_all cs) (length c) refl);
-      left = sym (drop-drop (length c) (at + 1) (take used s)) ∙ (ap (drop (length c)) r ∙ drop_at c (encode_all cs) (length c) refl);
+      fits = omega (arith, l, length-take (nat_abs n) rest);
+      left = ap clauses_in i ∙ (ap (λ x. c ∷ x) (sym e) ∙ ap (λ x. take x rest ∷ clauses_in (drop k rest)) (sym h));
+      sound = ap encode_all e ∙ sym d;
     }
