@@ -1,7 +1,5 @@
 use Rattle.std.proofs.Common.{◌≡◌, ◌+◌, ◌-◌, length, take, drop, replicate, pos, ap, ◌∙◌, arith, rules}
-use Rattle.solver.specs.Setting.{clauses_named}
-use Rattle.store.specs.Coding.{encode_all}
-use Rattle.store.proofs.Encoded.{no_clauses, encode_none, named_none}
+use Rattle.store.proofs.Encoded.{no_clauses}
 use Rattle.store.proofs.Answering.{held_zero, same_solving}
 use Rattle.deciding.proofs.Conclusions.{stored_none}
 use Rattle.deciding.proofs.kind.Kind.new.Goals as goal
