@@ -1,24 +1,28 @@
+ghost use Rattle.std.specs.Prelude.{◌≡◌, length};
 ghost use Rattle.plan_tree.specs.Making.{set_up_fault};
 
-use crate::lender::Lender;
 use design::JudgeFault;
 use job::{Maker, Unmade};
 use judge::check_sizes;
 use plain::Room;
 use scales::{Hours, Needles};
+use settling::Settling;
+use solver::check_making;
 use tree::{Tree, choices_needed, room_needed};
 
-// What the tree is made of: memory for its rules and prices, and its solver's store.
+// What the tree is made of: memory for its rules and prices, and its solver's store. 29,696 numbers
+// serve four prices in each cost at 64 choices and 1,024 units of rules.
 #[derive(Drop)]
-pub struct TreeMaker<L: Lender> {
+pub struct TreeMaker<'a> {
     pub room: Room,
-    pub lender: L,
+    pub cells: &'a mut [i16],
+    ghost size: { length cells.now ≡ 29696 },
 }
 
-impl<L: Lender> Maker for TreeMaker<L> {
-    type Judge = Tree<Hours, Needles, L::Solver>;
+impl<'a> Maker for TreeMaker<'a> {
+    type Judge = Tree<Hours, Needles, Settling<'a>>;
 
-    ghost refusal = { set_up_fault L.Lender.numbers };
+    ghost refusal = { set_up_fault 29696 };
 
     // The sizes are met first, and then the solver gets just the M and K that they need.
     fn make(
@@ -26,17 +30,21 @@ impl<L: Lender> Maker for TreeMaker<L> {
         choices: u8,
         price_room: u8,
         rule_room: u16,
-    ) -> Result<Tree<Hours, Needles, L::Solver>, Unmade<TreeMaker<L>>> {
+    ) -> Result<Tree<Hours, Needles, Settling<'a>>, Unmade<TreeMaker<'a>>> {
         let sizes = match check_sizes(choices, price_room, rule_room) {
             Ok(sizes) => sizes,
             Err(fault) => return Err(Unmade { fault, maker: self }),
         };
         let needed = choices_needed::<Hours, Needles>(sizes);
         let numbers = room_needed::<Hours, Needles>(sizes);
-        match self.lender.check(needed, numbers) {
-            Ok(checked) => {
-                let TreeMaker { room, lender } = self;
-                Ok(Tree::new(room, sizes, lender.lend(checked)))
+        match check_making(needed, numbers, 29696) {
+            Ok(()) => {
+                let TreeMaker { room, cells } = self;
+                let lent = store::Sizes {
+                    choices: needed,
+                    room: numbers,
+                };
+                Ok(Tree::new(room, sizes, Settling::new(lent, cells)))
             }
             Err(fault) => Err(Unmade {
                 fault: JudgeFault::Solver(fault),

@@ -1,4 +1,3 @@
-use crate::lender::{Lender, SettlingStore};
 use crate::maker::TreeMaker;
 use decode::decode;
 use job::{Line, Stage, perform};
@@ -9,18 +8,12 @@ use std::process::Abort;
 use std::test::Fail;
 
 // Looks at the lines of a job, without the end line.
-fn prints<L: Lender + Drop>(
-    rt: &impl Abort,
-    heap: Global,
-    lender: L,
-    job: &[u8],
-    lines: &[&str],
-) -> Result<(), Fail>
-where
-    L::Solver: Drop,
-{
-    let room = Room::new(heap)?;
-    let maker = TreeMaker { room, lender };
+fn prints(rt: &impl Abort, heap: Global, job: &[u8], lines: &[&str]) -> Result<(), Fail> {
+    let mut memory = vec![in heap; 0i16; 29696]?;
+    let maker = TreeMaker {
+        room: Room::new(heap)?,
+        cells: memory.as_mut_slice(),
+    };
     let mut stage = Stage::Waiting(maker, ListRoom::new(heap)?);
     let mut offset = 0;
     for line in lines {
@@ -38,13 +31,9 @@ where
 // Four prices in a cost fit the store at any N and R, and five at none.
 #[test]
 fn set_ups_meet_the_store(rt: HostRuntime) -> Result<(), Fail> {
-    let heap = rt.alloc();
-    let mut memory = vec![in heap; 0i16; 29696]?;
-    let cells = memory.as_mut_slice();
     prints(
         &rt,
-        heap,
-        SettlingStore { cells },
+        rt.alloc(),
         b"\x01\x41\x05\x01\x00\x01\x40\x41\x01\x00\x01\x01\x05\x01\x00\x01\x40\x40\x00\x04\
           \x01\x40\x04\x00\x04\x04\x40\x18\x05",
         &[
