@@ -2,7 +2,6 @@
 use Rattle.std.proofs.Common.{◌≡◌, ℕ, ◌<◌, ◌≤◌, true, ◌&&◌, leb, ◌⊎◌, List, [], ◌∷◌, sym, ap, ◌∙◌, subst, inl, inr, arith}
 use Rattle.std.proofs.lemmas.Bool.{cases_lt, or_cases, and_parts, leb-true}
 use Rattle.design.specs.Plan.{Scales, Meaning, Plan, Beats, point, cost_a, cost_b}
-use Rattle.design.proofs.Truth.{never}
 use Rattle.published.specs.Literature.{Assignment, ParetoOptimal}
 use Rattle.published.specs.Reading.{instance_of, assignment_of, image, ReadsAs}
 use Rattle.planner.specs.declared.entry.Entry.{Entry}
@@ -24,16 +23,21 @@ module _ (s : Scales) (m : Meaning) (r : ReadsAs s m) where
   all_optimal [] l = tt
   all_optimal (e ∷ es) l = (optimal_of e l.0, all_optimal es l.1)
 
-  pair : (a b x y : ℕ) → a ≡ x → b ≡ y → ◌≡◌ {A = ℕ × ℕ} (a, b) (x, y)
-  pair a b x y p q = ap (λ (k : ℕ). (k, b)) p ∙ ap (λ (k : ℕ). (x, k)) q
-
   -- an entry that covers an optimal point is at it
   at_point : (τ : Assignment) → ParetoOptimal (instance_of s m) τ → (x y : ℕ) → image (instance_of s m) τ ≡ (x, y) → (e : Entry) → Optimal s m e → e.a ≤ x → e.b ≤ y → (e.a, e.b) ≡ image (instance_of s m) τ
-  at_point τ o x y i e f la lb = by (cases_lt e.a x) (cases_lt e.b y)
+  at_point τ o x y i e f la lb =
+      elim (cases_lt e.a x) [
+        | inl p ↦ absurd (beaten (inl (omega (arith, a_is, x_is))))
+        | inr p ↦
+            elim (cases_lt e.b y) [
+              | inl q ↦ absurd (beaten (inr (omega (arith, b_is, y_is))))
+              | inr q ↦
+                  let same_a : e.a ≡ x = omega arith in
+                  let same_b : e.b ≡ y = omega arith in
+                  cc
+            ]
+      ]
     where
-      fst : (p : ℕ × ℕ) → ℕ
-      fst p = p.0
-
       a_is : (image (instance_of s m) (assignment_of e.word)).0 ≡ e.a
       a_is = ap (λ (p : ℕ × ℕ). p.0) f.at
 
@@ -49,18 +53,13 @@ module _ (s : Scales) (m : Meaning) (r : ReadsAs s m) where
       beaten : ((image (instance_of s m) (assignment_of e.word)).0 < (image (instance_of s m) τ).0) ⊎ ((image (instance_of s m) (assignment_of e.word)).1 < (image (instance_of s m) τ).1) → ⊥
       beaten less = o.undominated (assignment_of e.word) f.optimal.feasible (record { first = omega (arith, a_is, x_is); second = omega (arith, b_is, y_is); less = less })
 
-      by : (e.a < x) ⊎ (x ≤ e.a) → (e.b < y) ⊎ (y ≤ e.b) → (e.a, e.b) ≡ image (instance_of s m) τ
-      by (inl p) q = absurd (beaten (inl (omega (arith, a_is, x_is))))
-      by (inr p) (inl q) = absurd (beaten (inr (omega (arith, b_is, y_is))))
-      by (inr p) (inr q) = pair e.a e.b x y (omega arith) (omega arith) ∙ sym i
-
   lists_covered : (τ : Assignment) → ParetoOptimal (instance_of s m) τ → (x y : ℕ) → image (instance_of s m) τ ≡ (x, y) → (es : List Entry) → All (Optimal s m) es → covered es x y ≡ true → Lists es (image (instance_of s m) τ)
-  lists_covered τ o x y i [] f h = never (sym h)
-  lists_covered τ o x y i (e ∷ es) f h = by (λ t. lists_covered τ o x y i es f.1 t) (or_cases _ _ h)
-    where
-      by : (covered es x y ≡ true → Lists es (image (instance_of s m) τ)) → ((leb e.a x && leb e.b y) ≡ true) ⊎ (covered es x y ≡ true) → Lists (e ∷ es) (image (instance_of s m) τ)
-      by go (inl t) = let p = and_parts _ _ t in inl (at_point τ o x y i e f.0 (leb-true e.a x p.0) (leb-true e.b y p.1))
-      by go (inr t) = inr (go t)
+  lists_covered τ o x y i [] f h = cc
+  lists_covered τ o x y i (e ∷ es) f h =
+      elim (or_cases (leb e.a x && leb e.b y) (covered es x y) h) [
+        | inl t ↦ let p = and_parts _ _ t in inl (at_point τ o x y i e f.0 (leb-true e.a x p.0) (leb-true e.b y p.1))
+        | inr t ↦ inr (lists_covered τ o x y i es f.1 t)
+      ]
 
   pub all_listed : (es : List Entry) → Listing s m es → ((v : ℕ) → Plan s m v → covered es (cost_a s m v) (cost_b s m v) ≡ true) → AllListed s m es
   all_listed es l c = record {

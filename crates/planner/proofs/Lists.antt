@@ -1,14 +1,12 @@
 -- The list of entries, one more at its end.
-use Rattle.std.proofs.Common.{◌≡◌, ℕ, ◌+◌, ◌<◌, ◌≤◌, Bool, true, false, ◌⊎◌, List, [], ◌∷◌, ◌++◌, refl, ap, ◌∙◌, subst, inl, inr, arith}
-use Rattle.std.proofs.lemmas.Bool.Decides.{nat_tests, leb_tells}
+use Rattle.std.proofs.Common.{◌≡◌, ℕ, ◌+◌, ◌<◌, ◌≤◌, true, false, ◌⊎◌, List, [], ◌∷◌, ◌++◌, refl, inl, inr, arith}
+use Rattle.std.proofs.lemmas.Bool.{cases_Bool, cases_lt}
+use Rattle.std.proofs.lemmas.Bool.Decides.{nat_tests}
 use Rattle.design.specs.Plan.{Scales, Meaning, Plan, Beats, point, cost_a, cost_b}
 use Rattle.planner.specs.declared.entry.Entry.{Entry}
 use Rattle.planner.specs.Order.{All, Ordered, past_a, last_b, covered}
 use Rattle.planner.specs.Points.{Listed, Listing}
 use Rattle.planner.specs.Search.{Least}
-
-pub order : (a b : ℕ) → (a ≤ b) ⊎ (b < a)
-order a b = elim (leb_tells a b) [ inl h ↦ inl h.1 | inr h ↦ inr h.1 ]
 
 pub all_more : (P : Entry → Type 0) (es : List Entry) (e : Entry) → All P es → P e → All P (es ++ e ∷ [])
 all_more P [] e h p = (p, tt)
@@ -32,9 +30,7 @@ last_low low high (x ∷ es) o = omega (arith, last_low (x.a + 1) x.b es o.2, o.
 
 -- what an entry covers is at the last B or above
 pub covered_above : (low high : ℕ) (es : List Entry) (a b : ℕ) → Ordered low high es → covered es a b ≡ true → last_b high es ≤ b
-covered_above low high [] a b o h = absurd (no h) where
-  no : false ≡ true → ⊥
-  no e = omega (arith, let z : ◌≡◌ {A = ℕ} 0 1 = cc in z)
+covered_above low high [] a b o h = cc
 covered_above low high (x ∷ es) a b o h =
     elim (covered_case x es a b h) [
       | inl le ↦ omega (arith, last_low (x.a + 1) x.b es o.2, le)
@@ -71,48 +67,47 @@ Small s m = (v : ℕ) → Plan s m v → cost_b s m v ≤ 200
 pub covered_at : (s : Scales) (m : Meaning) (es : List Entry) → Small s m → Listing s m es → (v : ℕ) → Plan s m v → last_b 201 es ≤ cost_b s m v → covered es (cost_a s m v) (cost_b s m v) ≡ true
 covered_at s m [] small l v p h = absurd (omega (arith, small v p))
 covered_at s m (x ∷ es) small l v p h =
-    elim (order (past_a 0 (x ∷ es)) (cost_a s m v)) [
-      | inl le ↦ covered_last 0 201 x es (cost_a s m v) (cost_b s m v) (omega arith) h
-      | inr lt ↦ l.complete v p lt
+    elim (cases_lt (cost_a s m v) (past_a 0 (x ∷ es))) [
+      | inl lt ↦ l.complete v p lt
+      | inr le ↦ covered_last 0 201 x es (cost_a s m v) (cost_b s m v) (omega arith) h
     ]
 
 -- ended: no plan is below the last B
 pub all_covered : (s : Scales) (m : Meaning) (es : List Entry) → Small s m → Listing s m es → ((v : ℕ) → Plan s m v → cost_b s m v < last_b 201 es → ⊥) → (v : ℕ) → Plan s m v → covered es (cost_a s m v) (cost_b s m v) ≡ true
 all_covered s m es small l none v p =
-    elim (order (last_b 201 es) (cost_b s m v)) [
-      | inl le ↦ covered_at s m es small l v p le
-      | inr lt ↦ absurd (none v p lt)
+    elim (cases_lt (cost_b s m v) (last_b 201 es)) [
+      | inl lt ↦ absurd (none v p lt)
+      | inr le ↦ covered_at s m es small l v p le
     ]
-
-pair : {a b x y : ℕ} → x ≡ a → y ≡ b → ◌≡◌ {A = ℕ × ℕ} (x, y) (a, b)
-pair {a} {b} {x} {y} p q = ap (λ (k : ℕ). (k, y)) p ∙ ap (λ (k : ℕ). (a, k)) q
-
-is_false : (t : Bool) → (t ≡ true → ⊥) → t ≡ false
-is_false true h = absurd (h refl)
-is_false false h = refl
 
 module _ (s : Scales) (m : Meaning) (es : List Entry) (e : Entry) (most : ℕ) (small : Small s m) (l : Listing s m es) (bound : most + 1 ≡ last_b 201 es) (f : Least s m most e) where
   pub new_uncovered : covered es e.a e.b ≡ false
-  new_uncovered = is_false _ (λ t. omega (arith, covered_above 0 201 es e.a e.b l.ordered t, f.in_bound))
+  new_uncovered =
+      elim (cases_Bool (covered es e.a e.b)) [
+        | inl t ↦ absurd (omega (arith, covered_above 0 201 es e.a e.b l.ordered t, f.in_bound))
+        | inr t ↦ t
+      ]
 
   pub new_rises : past_a 0 es ≤ e.a
-  new_rises = elim (order (past_a 0 es) e.a) [
-    | inl le ↦ le
-    | inr lt ↦
-        let t : covered es e.a e.b ≡ true =
-        subst (λ (k : ℕ). covered es k e.b ≡ true) f.held.is_a (subst (λ (k : ℕ). covered es (cost_a s m e.word) k ≡ true) f.held.is_b (l.complete e.word f.held.plan (omega (arith, f.held.is_a)))) in
-        omega (arith, covered_above 0 201 es e.a e.b l.ordered t, f.in_bound)
+  new_rises = elim (cases_lt e.a (past_a 0 es)) [
+    | inl lt ↦
+        let a = f.held.is_a in
+        let b = f.held.is_b in
+        let c = l.complete e.word f.held.plan (omega arith) in
+        let t : covered es e.a e.b ≡ true = rw (← a, ← b) c in
+        absurd (omega (arith, covered_above 0 201 es e.a e.b l.ordered t, f.in_bound))
+    | inr le ↦ le
   ]
 
   new_complete : (v : ℕ) → Plan s m v → cost_a s m v < past_a 0 (es ++ e ∷ []) → covered (es ++ e ∷ []) (cost_a s m v) (cost_b s m v) ≡ true
   new_complete v p lt =
-      elim (order (cost_b s m v) most) [
-        | inl le ↦
-            let at_a : e.a ≤ cost_a s m v = elim (order e.a (cost_a s m v)) [ inl h ↦ h | inr h ↦ absurd (f.least_a v p h le) ] in
+      elim (cases_lt most (cost_b s m v)) [
+        | inl gt ↦ covered_old es e _ _ (covered_at s m es small l v p (omega arith))
+        | inr le ↦
+            let at_a : e.a ≤ cost_a s m v = elim (cases_lt (cost_a s m v) e.a) [ inl h ↦ absurd (f.least_a v p h le) | inr h ↦ h ] in
             let same_a : cost_a s m v ≤ e.a = omega (arith, past_more 0 es e) in
-            let at_b : e.b ≤ cost_b s m v = elim (order e.b (cost_b s m v)) [ inl h ↦ h | inr h ↦ absurd (f.least_b v p same_a h) ] in
+            let at_b : e.b ≤ cost_b s m v = elim (cases_lt (cost_b s m v) e.b) [ inl h ↦ absurd (f.least_b v p same_a h) | inr h ↦ h ] in
             covered_new es e _ _ at_a at_b
-        | inr gt ↦ covered_old es e _ _ (covered_at s m es small l v p (omega arith))
       ]
 
   beaten : (v : ℕ) → Plan s m v → Beats (point s m v) (e.a, e.b) → ⊥
@@ -122,7 +117,7 @@ module _ (s : Scales) (m : Meaning) (es : List Entry) (e : Entry) (most : ℕ) (
   listing_more = record {
     listed = all_more (Listed s m) es e l.listed (record {
       plan = f.held.plan;
-      shows = pair f.held.is_a f.held.is_b;
+      shows = let a = f.held.is_a in let b = f.held.is_b in cc;
       unbeaten = λ v p h. beaten v p h;
     });
     ordered = ordered_more 0 201 es e l.ordered new_rises (omega (arith, f.in_bound));

@@ -12,10 +12,8 @@ impl<J: Judge> Planner<J> {
     fn rule_of(&mut self, rule: RuleMarks) -> Result<(), PlannerFault>
         ensures { Extends J.Judge.scales (state_in J.Judge.meaning self.old) (ruled (marks_entered rule) result) (state_in J.Judge.meaning self.new) }
     {
-        if rule.count > 8 {
-            return self.rule(&[0; 9]);
-        }
-        self.rule(&rule.marks[0..rule.count as usize])
+        let marks = rule.marks.get(..usize::from(rule.count));
+        self.rule(marks.unwrap_or(&[0; 9]))
     }
 
     // Any call.
