@@ -107,11 +107,7 @@ fn answer<S: Solver + Drop>(
 }
 
 // A solver of a kind, with room for as many numbers as the input can bring.
-fn run_kind<S: Search>(
-    rt: &HostRuntime,
-    room: usize,
-    input: &mut Input<'_>,
-) -> anyhow::Result<()> {
+fn run_kind<S: Search>(rt: &HostRuntime, room: usize, input: &mut Input<'_>) -> anyhow::Result<()> {
     let choices = input.number();
     let size = room.saturating_add(usize::from(choices).saturating_mul(4));
     let mut memory = vec![in rt.alloc(); 0i16; size]?;
