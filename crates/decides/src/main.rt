@@ -107,18 +107,12 @@ fn answer<S: Solver + Drop>(
 }
 
 // A solver of a kind, with room for as many numbers as the input can bring.
-fn run_kind<S: Search>(
-    rt: &HostRuntime,
-    room: usize,
-    input: &mut Input<'_>,
-) -> anyhow::Result<()> {
+fn run_kind<S: Search>(rt: &HostRuntime, room: usize, input: &mut Input<'_>) -> anyhow::Result<()> {
     let choices = input.number();
     let size = room.saturating_add(usize::from(choices).saturating_mul(4));
     let mut memory = vec![in rt.alloc(); 0i16; size]?;
     let cells = memory.as_mut_slice();
-    let Ok(sizes) = check_store(choices, room, cells) else {
-        return Err(anyhow!("M is out of range"));
-    };
+    let sizes = check_store(choices, room, cells).map_err(|_| anyhow!("M is out of range"))?;
     let solver: Kind<S> = Kind::new(sizes, cells);
     answer(rt, input, solver)
 }

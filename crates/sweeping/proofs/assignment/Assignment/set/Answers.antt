@@ -1,4 +1,4 @@
-use Rattle.std.proofs.Common.{refl, ap, ◌∙◌, arith, w16, to_z, of_z, length-set, ℤ}
+use Rattle.std.proofs.Common.{refl, ap, ◌∙◌, arith, w16, length-set, ℤ}
 use Rattle.std.proofs.lemmas.Int.{to_z-of_z}
 use Rattle.design.specs.Mark.{bit_of}
 use Rattle.solver.specs.Setting.{clauses_named}
@@ -15,5 +15,4 @@ invariant_of-self-2 c =
     let m = to_z-of_z w16 c.args.mark c.ranges.mark in
     let z = to_z-of_z w16 c.args.value c.ranges.value in
     let w = given_whole a c.args.mark c.args.value c.place.result c.requires.opened c.requires.valued (c.place.ensures ∙ ap bit_of m) in
-    let n = length-set a.values.now c.place.result (to_z w16 (of_z w16 c.args.value)) in
-    record { few = omega (arith, length-set {A = ℤ}, a.few); named = ap (λ k. clauses_named k (clauses_in a.clauses.cells.now)) n ∙ a.named; marks = rw (m, z) w.marks; room = rw (m, z) w.room }
+    record { few = omega (arith, length-set {A = ℤ}, a.few); named = ap (λ k. clauses_named k (clauses_in a.clauses.cells.now)) (length-set a.values.now c.place.result _) ∙ a.named; marks = rw (m, z) w.marks; room = rw (m, z) w.room }
