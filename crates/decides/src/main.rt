@@ -8,6 +8,7 @@
 use anyhow::anyhow;
 use deciding::{Kind, Search};
 use design::SolverFault;
+use inputs::Input;
 use settling::BySettling;
 use solver::Solver;
 use std::alloc::Global;
@@ -16,38 +17,11 @@ use std::io::Read;
 use stepping::ByStepping;
 use store::check_store;
 
-// The bytes still to be read.
-#[derive(Drop)]
-struct Input<'a> {
-    rest: &'a [u8],
-}
-
-impl Input<'_> {
-    // 0 past the end.
-    fn byte(&mut self) -> u8 {
-        let Some((byte, rest)) = self.rest.split_first() else {
-            return 0;
-        };
-        self.rest = rest;
-        *byte
-    }
-
-    fn number(&mut self) -> u16 {
-        let low = self.byte();
-        u16::from_le_bytes([low, self.byte()])
-    }
-
-    fn mark(&mut self) -> i16 {
-        let low = self.byte();
-        i16::from_le_bytes([low, self.byte()])
-    }
-}
-
 fn read_clause<S: Solver>(input: &mut Input<'_>, solver: &mut S) -> Result<(), SolverFault> {
     let count = usize::from(input.byte()).min(8);
     let mut marks = [0i16; 8];
     for mark in marks[..count].iter_mut() {
-        *mark = input.mark();
+        *mark = input.number().cast_signed();
     }
     solver.clause(&marks[..count])
 }
@@ -93,7 +67,9 @@ fn answer<S: Solver + Drop>(
 ) -> anyhow::Result<()> {
     read_clauses(input, &mut solver).map_err(|_| anyhow!("a clause is refused"))?;
     let count = input.number();
-    let assumptions: Vec<i16> = (0..count).map(|_| input.mark()).collect(rt.alloc())?;
+    let assumptions: Vec<i16> = (0..count)
+        .map(|_| input.number().cast_signed())
+        .collect(rt.alloc())?;
     let answer = decide_often(&mut solver, &assumptions, input.number());
     match answer.map_err(|_| anyhow!("an assumption is refused"))? {
         None => {}
