@@ -17,3 +17,14 @@ pub record Grown (m m' : Meaning) : Type 0 where
   pub rule_room : m'.rule_room ≡ m.rule_room
   pub limit_a : m'.limit_a ≡ m.limit_a
   pub limit_b : m'.limit_b ≡ m.limit_b
+
+-- only prices of A, or of B, were entered
+pub record GrownInA (m m' : Meaning) : Type 0 where
+  pub grown : Grown m m'
+  pub rules : m'.rules ≡ m.rules
+  pub prices_b : m'.prices_b ≡ m.prices_b
+
+pub record GrownInB (m m' : Meaning) : Type 0 where
+  pub grown : Grown m m'
+  pub rules : m'.rules ≡ m.rules
+  pub prices_a : m'.prices_a ≡ m.prices_a

@@ -1,5 +1,5 @@
 ghost use Rattle.std.specs.Prelude.{◌≡◌, length};
-ghost use Rattle.inputs.specs.Reading.{Grown};
+ghost use Rattle.inputs.specs.Reading.{Grown, GrownInA, GrownInB};
 
 use crate::input::Input;
 use design::JudgeFault;
@@ -28,7 +28,7 @@ fn enter_rules<J: Judge>(input: &mut Input<'_>, judge: &mut J) -> Result<(), Jud
 }
 
 fn enter_prices_a<J: Judge>(input: &mut Input<'_>, judge: &mut J) -> Result<(), JudgeFault>
-    ensures { Grown (J.Judge.meaning judge.old) (J.Judge.meaning judge.new) }
+    ensures { GrownInA (J.Judge.meaning judge.old) (J.Judge.meaning judge.new) }
 {
     for _ in 0..input.byte() {
         let mark = input.byte().cast_signed();
@@ -38,7 +38,7 @@ fn enter_prices_a<J: Judge>(input: &mut Input<'_>, judge: &mut J) -> Result<(), 
 }
 
 fn enter_prices_b<J: Judge>(input: &mut Input<'_>, judge: &mut J) -> Result<(), JudgeFault>
-    ensures { Grown (J.Judge.meaning judge.old) (J.Judge.meaning judge.new) }
+    ensures { GrownInB (J.Judge.meaning judge.old) (J.Judge.meaning judge.new) }
 {
     for _ in 0..input.byte() {
         let mark = input.byte().cast_signed();
