@@ -12,7 +12,7 @@ pub fn check_making(choices: u16, room: usize, long: usize) -> Result<(), Solver
     if choices == 0 || choices > 32767 {
         return Err(SolverFault::Choices);
     }
-    let settings = 4 * choices as usize;
+    let settings = 4 * usize::from(choices);
     // Without the sum of both, which need not fit.
     if long < settings || long - settings < room {
         return Err(SolverFault::TooSmall);

@@ -25,7 +25,7 @@ pub enum State {
 pub fn place(mark: i16) -> usize
     ensures { result ≡ bit_of mark }
 {
-    mark.unsigned_abs().saturating_sub(1) as usize
+    usize::from(mark.unsigned_abs().saturating_sub(1))
 }
 
 // The value that makes a mark true.
