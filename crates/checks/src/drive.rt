@@ -1,10 +1,13 @@
-use crate::draft::{Draft, price_refusal};
+use crate::draft::{Cost, Draft};
 use crate::random::Random;
-use crate::sweep::{Sweep, cost, is_setting, meets_all};
-use design::{JudgeFault, Price};
-use judge::Judge;
+use crate::sweep::Sweep;
+use design::{JudgeFault, Layer, Price};
+use judge::{Judge, Sizes};
+use plain::Plain;
 use scales::Scale;
 use std::alloc::{AllocError, AllocFailed, Global};
+use std::iter::{self, Chain, Once};
+use std::ops::RangeInclusive;
 
 // Where a judge and a draft part.
 #[derive(Debug, Drop)]
@@ -55,197 +58,149 @@ impl<T: Drop> From<AllocFailed<T>> for Mismatch {
 }
 
 // The number of a refusal, which is of the judge's layer.
-pub fn refusal(answer: Result<(), JudgeFault>) -> Result<Option<u8>, Mismatch> {
+pub fn refusal<T: Drop>(answer: Result<T, JudgeFault>) -> Result<Option<u8>, Mismatch> {
     match answer {
-        Ok(()) => Ok(None),
-        Err(fault) => {
-            if fault.layer().name() == "judge" {
-                Ok(Some(fault.number()))
-            } else {
-                Err(Mismatch::Layer)
-            }
-        }
+        Ok(_) => Ok(None),
+        Err(fault) if fault.layer() == Layer::Judge => Ok(Some(fault.number())),
+        Err(_) => Err(Mismatch::Layer),
     }
 }
 
-// Whether the entry was accepted, where the judge answered as it should.
-fn accepted(owed: Option<u8>, answer: Result<(), JudgeFault>) -> Result<bool, Mismatch> {
-    let given = refusal(answer)?;
+// The refusal, where it is the one that is owed.
+fn agreed(owed: Option<u8>, given: Option<u8>) -> Result<Option<u8>, Mismatch> {
     if given == owed {
-        Ok(owed.is_none())
+        Ok(given)
     } else {
         Err(Mismatch::Refusal { owed, given })
     }
 }
 
-// Enters a rule into the judge and the draft, or has it refused by both; whether it was accepted.
-pub fn enter_rule<J: Judge>(
-    judge: &mut J,
-    draft: &mut Draft,
-    heap: Global,
-    marks: &[i8],
-) -> Result<bool, Mismatch> {
-    let owed = draft.rule_refusal(marks);
-    let is_in = accepted(owed, judge.rule(marks))?;
-    if is_in {
-        draft.add_rule(heap, marks)?;
+pub fn top_of<J: Judge>(cost: Cost) -> u8 {
+    match cost {
+        Cost::A => J::CostA::TOP,
+        Cost::B => J::CostB::TOP,
     }
-    Ok(is_in)
-}
-
-pub fn enter_price_a<J: Judge>(
-    judge: &mut J,
-    draft: &mut Draft,
-    price: Price,
-) -> Result<bool, Mismatch> {
-    let top = J::CostA::TOP;
-    let owed = price_refusal(
-        draft.choices,
-        draft.price_room,
-        top,
-        draft.prices_a.as_slice(),
-        price,
-    );
-    let is_in = accepted(owed, judge.price_a(price.mark, price.place))?;
-    if is_in {
-        draft.prices_a.push(price)?;
-    }
-    Ok(is_in)
-}
-
-pub fn enter_price_b<J: Judge>(
-    judge: &mut J,
-    draft: &mut Draft,
-    price: Price,
-) -> Result<bool, Mismatch> {
-    let top = J::CostB::TOP;
-    let owed = price_refusal(
-        draft.choices,
-        draft.price_room,
-        top,
-        draft.prices_b.as_slice(),
-        price,
-    );
-    let is_in = accepted(owed, judge.price_b(price.mark, price.place))?;
-    if is_in {
-        draft.prices_b.push(price)?;
-    }
-    Ok(is_in)
-}
-
-// Enters prices of cost A, each with the number of the refusal that it is owed, if any.
-pub fn expect_prices_a<J: Judge>(
-    judge: &mut J,
-    steps: &[(i8, u8, Option<u8>)],
-) -> Result<(), Mismatch> {
-    for (mark, place, owed) in steps {
-        accepted(*owed, judge.price_a(*mark, *place))?;
-    }
-    Ok(())
-}
-
-pub fn expect_prices_b<J: Judge>(
-    judge: &mut J,
-    steps: &[(i8, u8, Option<u8>)],
-) -> Result<(), Mismatch> {
-    for (mark, place, owed) in steps {
-        accepted(*owed, judge.price_b(*mark, *place))?;
-    }
-    Ok(())
-}
-
-// Enters rules, each with the number of the refusal that it is owed, if any.
-pub fn expect_rules<J: Judge>(
-    judge: &mut J,
-    steps: &[(&[i8], Option<u8>)],
-) -> Result<(), Mismatch> {
-    for (marks, owed) in steps {
-        accepted(*owed, judge.rule(*marks))?;
-    }
-    Ok(())
 }
 
 // The bounds that a cost is tried at: every place, one past the top, and the largest byte.
-fn bound_at(top: u8, k: u8) -> u8 {
-    if k > top.saturating_add(1) { 255 } else { k }
+fn bounds(top: u8) -> Chain<RangeInclusive<u8>, Once<u8>> {
+    (0..=top.saturating_add(1)).chain(iter::once(255))
 }
 
-// Compares seek with the sweep at every pair of bounds.
-pub fn compare_seeks<J: Judge>(
-    judge: &mut J,
-    draft: &Draft,
-    sweep: &Sweep,
-) -> Result<(), Mismatch> {
-    let top = J::CostA::TOP;
-    for k in 0..top.saturating_add(3) {
-        compare_row(judge, draft, sweep, bound_at(top, k))?;
-    }
-    Ok(())
+// A judge, and the draft of what it was given.
+#[derive(Drop)]
+pub struct Trial<J> {
+    pub judge: J,
+    pub draft: Draft,
 }
 
-fn compare_row<J: Judge>(
-    judge: &mut J,
-    draft: &Draft,
-    sweep: &Sweep,
-    a: u8,
-) -> Result<(), Mismatch> {
-    let top = J::CostB::TOP;
-    for k in 0..top.saturating_add(3) {
-        compare_seek(judge, draft, sweep, a, bound_at(top, k))?;
-    }
-    Ok(())
-}
-
-pub fn compare_seek<J: Judge>(
-    judge: &mut J,
-    draft: &Draft,
-    sweep: &Sweep,
-    a: u8,
-    b: u8,
-) -> Result<(), Mismatch> {
-    match judge.seek(a, b) {
-        None if sweep.has_plan(a, b) => Err(Mismatch::Missed { a, b }),
-        None => Ok(()),
-        Some(word) if !sweep.has_plan(a, b) => Err(Mismatch::Imagined { a, b, word }),
-        Some(word) if is_plan::<J>(draft, word, a, b) => Ok(()),
-        Some(word) => Err(Mismatch::NoPlan { a, b, word }),
+impl<A: Scale, B: Scale> Trial<Plain<A, B>> {
+    // The plain judge and its draft, both without rules and prices.
+    pub fn plain(heap: Global, sizes: Sizes, span: u8) -> Result<Trial<Plain<A, B>>, AllocError> {
+        let draft = Draft::new(heap, sizes, span);
+        Ok(Trial::new(draft.plain()?, draft))
     }
 }
 
-// The word is a setting that meets the rules, with costs within the limits and the bounds.
-pub fn is_plan<J: Judge>(draft: &Draft, word: u64, a: u8, b: u8) -> bool {
-    is_setting(word, draft.choices)
-        && meets_all(word, draft.rules.as_slice())
-        && cost::<J::CostA>(draft.prices_a.as_slice(), word) <= a.min(draft.limit_a)
-        && cost::<J::CostB>(draft.prices_b.as_slice(), word) <= b.min(draft.limit_b)
-}
+impl<J: Judge> Trial<J> {
+    pub fn new(judge: J, draft: Draft) -> Trial<J> {
+        Trial { judge, draft }
+    }
 
-// Compares the costs of some random words, high bits and all, with the direct count.
-pub fn compare_costs<J: Judge>(
-    judge: &J,
-    draft: &Draft,
-    random: &mut Random,
-) -> Result<(), Mismatch> {
-    for _ in 0..8u8 {
-        let word = random.word();
-        let a = cost::<J::CostA>(draft.prices_a.as_slice(), word);
-        let direct = (a, cost::<J::CostB>(draft.prices_b.as_slice(), word));
-        let told = judge.costs(word);
-        if told != direct {
-            return Err(Mismatch::Costs { word, direct, told });
+    // Enters a rule into the judge and the draft, or has it refused by both alike.
+    pub fn enter_rule(&mut self, marks: &[i8]) -> Result<Option<u8>, Mismatch> {
+        let owed = self.draft.rule_refusal(marks);
+        let given = refusal(self.judge.rule(marks))?;
+        if owed.is_none() {
+            self.draft.add_rule(marks)?;
+        }
+        agreed(owed, given)
+    }
+
+    // The same of a price.
+    pub fn enter_price(&mut self, cost: Cost, price: Price) -> Result<Option<u8>, Mismatch> {
+        let owed = self.draft.price_refusal(cost, top_of::<J>(cost), price);
+        let answer = match cost {
+            Cost::A => self.judge.price_a(price.mark, price.place),
+            Cost::B => self.judge.price_b(price.mark, price.place),
+        };
+        if owed.is_none() {
+            self.draft.add_price(cost, price)?;
+        }
+        agreed(owed, refusal(answer)?)
+    }
+
+    // Enters rules, each with the number of the refusal that it is owed, if any.
+    pub fn expect_rules(&mut self, steps: &[(&[i8], Option<u8>)]) -> Result<(), Mismatch> {
+        for (marks, owed) in steps {
+            agreed(*owed, self.enter_rule(*marks)?)?;
+        }
+        Ok(())
+    }
+
+    // The same of prices of a cost.
+    pub fn expect_prices(
+        &mut self,
+        cost: Cost,
+        steps: &[(i8, u8, Option<u8>)],
+    ) -> Result<(), Mismatch> {
+        for (mark, place, owed) in steps {
+            let (mark, place) = (*mark, *place);
+            agreed(*owed, self.enter_price(cost, Price { mark, place })?)?;
+        }
+        Ok(())
+    }
+
+    // Compares seek with the sweep at every pair of bounds.
+    fn compare_seeks(&mut self, sweep: &Sweep) -> Result<(), Mismatch> {
+        for a in bounds(J::CostA::TOP) {
+            self.compare_row(sweep, a)?;
+        }
+        Ok(())
+    }
+
+    fn compare_row(&mut self, sweep: &Sweep, a: u8) -> Result<(), Mismatch> {
+        for b in bounds(J::CostB::TOP) {
+            self.compare_seek(sweep, a, b)?;
+        }
+        Ok(())
+    }
+
+    fn compare_seek(&mut self, sweep: &Sweep, a: u8, b: u8) -> Result<(), Mismatch> {
+        match self.judge.seek(a, b) {
+            None if sweep.has_plan(a, b) => Err(Mismatch::Missed { a, b }),
+            None => Ok(()),
+            Some(word) if !sweep.has_plan(a, b) => Err(Mismatch::Imagined { a, b, word }),
+            Some(word) => self.check_plan(word, a, b),
         }
     }
-    Ok(())
-}
 
-// Compares a judge with a draft in all that it answers.
-pub fn compare<J: Judge>(
-    judge: &mut J,
-    draft: &Draft,
-    heap: Global,
-    random: &mut Random,
-) -> Result<(), Mismatch> {
-    let sweep = Sweep::of::<J::CostA, J::CostB>(heap, draft)?;
-    compare_seeks(judge, draft, &sweep)?;
-    compare_costs(judge, draft, random)
+    // What was found is a plan within the bounds.
+    pub(crate) fn check_plan(&self, word: u64, a: u8, b: u8) -> Result<(), Mismatch> {
+        if self.draft.is_plan::<J::CostA, J::CostB>(word, a, b) {
+            Ok(())
+        } else {
+            Err(Mismatch::NoPlan { a, b, word })
+        }
+    }
+
+    // Compares the costs of some random words, high bits and all, with the direct count.
+    pub(crate) fn compare_costs(&self, random: &mut Random) -> Result<(), Mismatch> {
+        for _ in 0..8u8 {
+            let word = random.word();
+            let direct = self.draft.costs::<J::CostA, J::CostB>(word);
+            let told = self.judge.costs(word);
+            if told != direct {
+                return Err(Mismatch::Costs { word, direct, told });
+            }
+        }
+        Ok(())
+    }
+
+    // Compares the judge with the draft in all that it answers.
+    pub fn compare(&mut self, random: &mut Random) -> Result<(), Mismatch> {
+        let sweep = Sweep::of::<J::CostA, J::CostB>(&self.draft)?;
+        self.compare_seeks(&sweep)?;
+        self.compare_costs(random)
+    }
 }

@@ -4,6 +4,6 @@
 
 pub mod draft;
 pub mod drive;
-pub mod fill;
+mod fill;
 pub mod random;
 pub mod sweep;

@@ -11,19 +11,16 @@ pub struct Sweep {
 }
 
 impl Sweep {
-    pub fn of<A: Scale, B: Scale>(heap: Global, draft: &Draft) -> Result<Sweep, AllocError> {
+    pub fn of<A: Scale, B: Scale>(draft: &Draft) -> Result<Sweep, AllocError> {
         let mut sweep = Sweep {
-            least_b: vec![in heap; None; 256]?,
+            least_b: vec![in draft.heap; None; 256]?,
         };
-        let step = power_of_two(draft.choices.saturating_sub(draft.span));
-        for k in 0..power_of_two(draft.span.min(16)) {
-            let word = k.wrapping_mul(step);
-            if meets_all(word, draft.rules.as_slice()) {
-                let a = cost::<A>(draft.prices_a.as_slice(), word);
-                let b = cost::<B>(draft.prices_b.as_slice(), word);
-                if a <= draft.limit_a && b <= draft.limit_b {
-                    sweep.note(a, b);
-                }
+        let step = power_of_two(draft.sizes.choices.saturating_sub(draft.span));
+        let words = (0..power_of_two(draft.span.min(16))).map(|k| k.wrapping_mul(step));
+        for word in words.filter(|word| draft.admits(*word)) {
+            let (a, b) = draft.costs::<A, B>(word);
+            if a <= draft.limit_a && b <= draft.limit_b {
+                sweep.note(a, b);
             }
         }
         sweep.widen();
@@ -45,98 +42,59 @@ impl Sweep {
         }
     }
 
-    // The points that no plan beats, in the order of a rising cost A.
-    pub fn front(&self, heap: Global) -> Result<Vec<(u8, u8)>, AllocError> {
-        let mut front = Vec::new(heap);
-        let mut below: u8 = 255;
-        for a in 0..255u8 {
-            if let Some(b) = self.least_below(a, below) {
-                front.push((a, b))?;
-                below = b;
-            }
-        }
-        Ok(front)
+    // The least cost B of the plans within a cost A.
+    fn least(&self, a: u8) -> Option<u8> {
+        self.least_b.get(usize::from(a)).copied().flatten()
     }
 
-    // The least cost B below a bound, of the plans within a cost A.
-    fn least_below(&self, a: u8, below: u8) -> Option<u8> {
-        for b in 0..below {
-            if self.has_plan(a, b) {
-                return Some(b);
-            }
-        }
-        None
+    // The points that no plan beats, in the order of a rising cost A: where the least cost B falls.
+    pub fn front(&self, heap: Global) -> Result<Vec<(u8, u8)>, AllocError> {
+        let within = |a| self.least(a).map(|b| (a, b));
+        let mut front: Vec<(u8, u8)> = (0..255u8).filter_map(within).collect(heap)?;
+        front.dedup_by_key(|point| point.1);
+        Ok(front)
     }
 
     // Whether there is a plan within both bounds.
     pub fn has_plan(&self, a: u8, b: u8) -> bool {
-        match self.least_b.get(usize::from(a)) {
-            Some(Some(least)) => *least <= b,
-            _ => false,
-        }
+        self.least(a).is_some_and(|least| least <= b)
     }
 }
 
 fn lesser(one: Option<u8>, other: Option<u8>) -> Option<u8> {
-    match (one, other) {
-        (Some(x), Some(y)) => Some(x.min(y)),
-        (Some(x), None) => Some(x),
-        (None, _) => other,
-    }
+    one.into_iter().chain(other).min()
 }
 
 // 2 to the n-th; 0 where that is more than 64 bits.
-pub fn power_of_two(n: u8) -> u64 {
-    let mut power: u64 = 1;
-    for _ in 0..n {
-        power = power.wrapping_mul(2);
-    }
-    power
+fn power_of_two(n: u8) -> u64 {
+    1u64.checked_shl(u32::from(n)).unwrap_or(0)
+}
+
+// The word without the bits of its lowest n choices.
+fn halved(word: u64, n: u8) -> u64 {
+    (0..n).fold(word, |rest, _| rest / 2)
 }
 
 // Whether a mark is true of a setting: the word halved down to the mark's choice is odd or not.
 fn is_so(word: u64, mark: i8) -> bool {
-    let mut rest = word;
-    for _ in 1..mark.unsigned_abs() {
-        rest /= 2;
-    }
+    let rest = halved(word, mark.unsigned_abs().saturating_sub(1));
     (rest % 2 == 1) == (mark > 0)
 }
 
-pub fn meets(word: u64, rule: &[i8]) -> bool {
-    for mark in rule {
-        if is_so(word, *mark) {
-            return true;
-        }
-    }
-    false
-}
-
-pub fn meets_all(word: u64, rules: &[Vec<i8>]) -> bool {
-    for rule in rules {
-        if !meets(word, rule.as_slice()) {
-            return false;
-        }
-    }
-    true
+pub(crate) fn meets(word: u64, rule: &[i8]) -> bool {
+    rule.iter().any(|mark| is_so(word, *mark))
 }
 
 // The cost of a setting, as a place.
-pub fn cost<S: Scale>(prices: &[Price], word: u64) -> u8 {
-    let mut sum = S::nothing();
-    for price in prices {
-        if is_so(word, price.mark) {
-            sum = S::join(sum, S::from_place(price.place));
-        }
-    }
+pub(crate) fn cost<S: Scale>(prices: &[Price], word: u64) -> u8 {
+    let sum = prices.iter().filter(|price| is_so(word, price.mark)).fold(
+        S::nothing(),
+        |sum, price| S::join(sum, S::from_place(price.place)),
+    );
     S::place_of(sum)
 }
 
 // The word has no bit of a choice above the last.
-pub fn is_setting(word: u64, choices: u8) -> bool {
-    let mut rest = word;
-    for _ in 0..choices {
-        rest /= 2;
-    }
-    rest == 0
+pub(crate) fn is_setting(word: u64, choices: u8) -> bool {
+    halved(word, choices) == 0
 }

@@ -1,5 +1,5 @@
 use checks::draft::Draft;
-use checks::fill::{fill_and_compare, provoke};
+use checks::drive::Trial;
 use checks::random::Random;
 use checks::sweep::Sweep;
 use judge::{Judge, check_sizes};
@@ -11,22 +11,6 @@ use std::alloc::Global;
 use std::process::Abort;
 use std::test::Fail;
 use test_scales::Skips;
-
-fn made<A: Scale, B: Scale>(heap: Global, draft: &Draft) -> Result<Plain<A, B>, Fail> {
-    match check_sizes(draft.choices, draft.price_room, draft.rule_room) {
-        Ok(sizes) => Ok(Plain::<A, B>::new(Room::new(heap)?, sizes)),
-        Err(fault) => Err(Fail::new(fault.number())),
-    }
-}
-
-// An empty draft of up to 7 choices, with limits.
-fn drawn(random: &mut Random, heap: Global, limit_a: u8, limit_b: u8) -> Draft {
-    let choices = random.below(7).saturating_add(1);
-    let mut draft = Draft::new(heap, choices, 64, 1024, choices);
-    draft.limit_a = limit_a;
-    draft.limit_b = limit_b;
-    draft
-}
 
 // A limit: mostly a place of the scale, sometimes its top or above it.
 fn draw_limit<S: Scale>(random: &mut Random) -> u8 {
@@ -56,18 +40,31 @@ fn expect_points<J: Judge + Drop>(
 // A pile holds against the sweep in all that it answers, refusals too, and in what it lists.
 fn compare_pile<J: Judge + Drop>(
     rt: &impl Abort,
-    judge: J,
+    pile: J,
     draft: Draft,
-    heap: Global,
     random: &mut Random,
 ) -> Result<(), Fail> {
-    let (mut judge, mut draft) = (judge, draft);
-    fill_and_compare(&mut judge, &mut draft, heap, random)?;
+    let mut trial = Trial::new(pile, draft);
+    trial.fill_and_compare(random)?;
     if random.once_in(8) {
-        provoke(&mut judge, &mut draft, heap, random)?;
+        trial.provoke(random)?;
     }
-    let front = Sweep::of::<J::CostA, J::CostB>(heap, &draft)?.front(heap)?;
-    expect_points(rt, heap, judge, front.as_slice())
+    let Trial { judge, draft } = trial;
+    let front = Sweep::of::<J::CostA, J::CostB>(&draft)?.front(draft.heap)?;
+    expect_points(rt, draft.heap, judge, front.as_slice())
+}
+
+// An empty plain judge of up to 7 choices, beside a draft with the limits that its pile comes to.
+// The pile is made by the caller: a closure that makes it is not covered by the borrow checker.
+fn drawn<A: Scale, B: Scale>(
+    heap: Global,
+    random: &mut Random,
+    limits: (u8, u8),
+) -> Result<(Plain<A, B>, Draft), Fail> {
+    let choices = random.below(7).saturating_add(1);
+    let mut draft = Draft::new(heap, check_sizes(choices, 64, 1024)?, choices);
+    (draft.limit_a, draft.limit_b) = limits;
+    Ok((draft.plain()?, draft))
 }
 
 // One layer.
@@ -77,12 +74,10 @@ fn single<A: Scale, B: Scale>(
     random: &mut Random,
 ) -> Result<(), Fail> {
     let (a, b) = (draw_limit::<A>(random), draw_limit::<B>(random));
-    let draft = drawn(random, heap, a, b);
-    let judge = made::<A, B>(heap, &draft)?;
-    compare_pile(rt, Limit::new(judge, a, b), draft, heap, random)?;
-    let draft = drawn(random, heap, 255, 255);
-    let judge = made::<A, B>(heap, &draft)?;
-    compare_pile(rt, Swap::new(judge), draft, heap, random)
+    let (judge, draft) = drawn::<A, B>(heap, random, (a, b))?;
+    compare_pile(rt, Limit::new(judge, a, b), draft, random)?;
+    let (judge, draft) = drawn::<A, B>(heap, random, (255, 255))?;
+    compare_pile(rt, Swap::new(judge), draft, random)
 }
 
 // Two: limits in either order of the exchange, and two limits.
@@ -92,17 +87,14 @@ fn double<A: Scale, B: Scale>(
     random: &mut Random,
 ) -> Result<(), Fail> {
     let (a, b) = (draw_limit::<A>(random), draw_limit::<B>(random));
-    let draft = drawn(random, heap, b, a);
-    let judge = made::<A, B>(heap, &draft)?;
-    compare_pile(rt, Swap::new(Limit::new(judge, a, b)), draft, heap, random)?;
-    let draft = drawn(random, heap, b, a);
-    let judge = made::<A, B>(heap, &draft)?;
-    compare_pile(rt, Limit::new(Swap::new(judge), b, a), draft, heap, random)?;
+    let (judge, draft) = drawn::<A, B>(heap, random, (b, a))?;
+    compare_pile(rt, Swap::new(Limit::new(judge, a, b)), draft, random)?;
+    let (judge, draft) = drawn::<A, B>(heap, random, (b, a))?;
+    compare_pile(rt, Limit::new(Swap::new(judge), b, a), draft, random)?;
     let (c, d) = (draw_limit::<A>(random), draw_limit::<B>(random));
-    let draft = drawn(random, heap, a.min(c), b.min(d));
-    let judge = made::<A, B>(heap, &draft)?;
+    let (judge, draft) = drawn::<A, B>(heap, random, (a.min(c), b.min(d)))?;
     let pile = Limit::new(Limit::new(judge, a, b), c, d);
-    compare_pile(rt, pile, draft, heap, random)
+    compare_pile(rt, pile, draft, random)
 }
 
 // Three and more.
@@ -113,17 +105,14 @@ fn higher<A: Scale, B: Scale>(
 ) -> Result<(), Fail> {
     let (a, b) = (draw_limit::<A>(random), draw_limit::<B>(random));
     let (c, d) = (draw_limit::<A>(random), draw_limit::<B>(random));
-    let draft = drawn(random, heap, b.min(d), a.min(c));
-    let judge = made::<A, B>(heap, &draft)?;
+    let (judge, draft) = drawn::<A, B>(heap, random, (b.min(d), a.min(c)))?;
     let pile = Limit::new(Swap::new(Limit::new(judge, a, b)), d, c);
-    compare_pile(rt, pile, draft, heap, random)?;
-    let draft = drawn(random, heap, a.min(c), b.min(d));
-    let judge = made::<A, B>(heap, &draft)?;
+    compare_pile(rt, pile, draft, random)?;
+    let (judge, draft) = drawn::<A, B>(heap, random, (a.min(c), b.min(d)))?;
     let inner = Limit::new(Swap::new(Limit::new(judge, a, b)), d, c);
-    compare_pile(rt, Swap::new(inner), draft, heap, random)?;
-    let draft = drawn(random, heap, a, b);
-    let judge = made::<A, B>(heap, &draft)?;
-    compare_pile(rt, swap_twice(Limit::new(judge, a, b)), draft, heap, random)
+    compare_pile(rt, Swap::new(inner), draft, random)?;
+    let (judge, draft) = drawn::<A, B>(heap, random, (a, b))?;
+    compare_pile(rt, swap_twice(Limit::new(judge, a, b)), draft, random)
 }
 
 fn piles<A: Scale, B: Scale>(
@@ -162,8 +151,7 @@ fn enter<J: Judge>(rt: &impl Abort, judge: &mut J) {
 }
 
 fn sample(rt: &impl Abort, heap: Global) -> Result<Plain<Hours, Needles>, Fail> {
-    let draft = Draft::new(heap, 2, 4, 16, 2);
-    let mut judge = made::<Hours, Needles>(heap, &draft)?;
+    let mut judge = Plain::new(Room::new(heap)?, check_sizes(2, 4, 16)?);
     enter(rt, &mut judge);
     Ok(judge)
 }

@@ -1,25 +1,23 @@
-use checks::draft::Draft;
-use checks::drive::{compare, enter_rule, expect_prices_a, expect_prices_b, expect_rules, refusal};
-use checks::fill::{fill_and_compare, plant_and_seek, provoke};
+use checks::draft::Cost;
+use checks::drive::{Trial, refusal};
 use checks::random::Random;
 use judge::{Judge, check_sizes};
-use plain::{Plain, Room};
+use plain::Plain;
 use scales::{Hours, Needles, Scale};
 use std::alloc::Global;
 use std::process::Abort;
 use std::test::Fail;
 use test_scales::{Skips, Sum200};
 
+// A plain judge of whose choices any may have marks.
 fn made<A: Scale, B: Scale>(
     heap: Global,
     choices: u8,
     price_room: u8,
     rule_room: u16,
-) -> Result<Plain<A, B>, Fail> {
-    match check_sizes(choices, price_room, rule_room) {
-        Ok(sizes) => Ok(Plain::<A, B>::new(Room::new(heap)?, sizes)),
-        Err(fault) => Err(Fail::new(fault.number())),
-    }
+) -> Result<Trial<Plain<A, B>>, Fail> {
+    let sizes = check_sizes(choices, price_room, rule_room)?;
+    Ok(Trial::plain(heap, sizes, choices)?)
 }
 
 // Random designs of up to 10 choices, each compared at every pair of bounds.
@@ -27,9 +25,8 @@ fn small_designs<A: Scale, B: Scale>(heap: Global, seed: u64, count: u8) -> Resu
     let mut random = Random::new(seed);
     for _ in 0..count {
         let choices = random.below(10).saturating_add(1);
-        let mut judge = made::<A, B>(heap, choices, 64, 1024)?;
-        let mut draft = Draft::new(heap, choices, 64, 1024, choices);
-        fill_and_compare(&mut judge, &mut draft, heap, &mut random)?;
+        let mut trial = made::<A, B>(heap, choices, 64, 1024)?;
+        trial.fill_and_compare(&mut random)?;
     }
     Ok(())
 }
@@ -43,9 +40,9 @@ fn wide_designs<A: Scale, B: Scale>(heap: Global, seed: u64, count: u8) -> Resul
         } else {
             random.below(54).saturating_add(11)
         };
-        let mut judge = made::<A, B>(heap, choices, 64, 1024)?;
-        let mut draft = Draft::new(heap, choices, 64, 1024, 8);
-        fill_and_compare(&mut judge, &mut draft, heap, &mut random)?;
+        let sizes = check_sizes(choices, 64, 1024)?;
+        let mut trial = Trial::<Plain<A, B>>::plain(heap, sizes, 8)?;
+        trial.fill_and_compare(&mut random)?;
     }
     Ok(())
 }
@@ -54,9 +51,8 @@ fn wide_designs<A: Scale, B: Scale>(heap: Global, seed: u64, count: u8) -> Resul
 fn planted_designs<A: Scale, B: Scale>(heap: Global, seed: u64, count: u8) -> Result<(), Fail> {
     let mut random = Random::new(seed);
     for _ in 0..count {
-        let mut judge = made::<A, B>(heap, 64, 64, 1024)?;
-        let mut draft = Draft::new(heap, 64, 64, 1024, 64);
-        plant_and_seek(&mut judge, &mut draft, heap, &mut random)?;
+        let mut trial = made::<A, B>(heap, 64, 64, 1024)?;
+        trial.plant_and_seek(&mut random)?;
     }
     Ok(())
 }
@@ -68,9 +64,8 @@ fn provoked_designs<A: Scale, B: Scale>(heap: Global, seed: u64, count: u8) -> R
         let choices = random.below(7).saturating_add(1);
         let price_room = random.below(7).saturating_add(1);
         let rule_room = u16::from(random.below(30)).saturating_add(1);
-        let mut judge = made::<A, B>(heap, choices, price_room, rule_room)?;
-        let mut draft = Draft::new(heap, choices, price_room, rule_room, choices);
-        provoke(&mut judge, &mut draft, heap, &mut random)?;
+        let mut trial = made::<A, B>(heap, choices, price_room, rule_room)?;
+        trial.provoke(&mut random)?;
     }
     Ok(())
 }
@@ -110,10 +105,7 @@ fn refusals_change_nothing(rt: HostRuntime) -> Result<(), Fail> {
 
 fn expect_sizes(rt: &impl Abort, owed: Option<u8>, sizes: &[(u8, u8, u16)]) -> Result<(), Fail> {
     for (choices, price_room, rule_room) in sizes {
-        let given = match check_sizes(*choices, *price_room, *rule_room) {
-            Ok(_) => None,
-            Err(fault) => refusal(Err(fault))?,
-        };
+        let given = refusal(check_sizes(*choices, *price_room, *rule_room))?;
         assert_eq!(rt; given, owed);
     }
     Ok(())
@@ -136,45 +128,42 @@ fn sizes_have_edges(rt: HostRuntime) -> Result<(), Fail> {
 
 #[test]
 fn marks_have_edges(rt: HostRuntime) -> Result<(), Fail> {
-    let mut judge = made::<Hours, Needles>(rt.alloc(), 64, 64, 1024)?;
-    expect_rules(&mut judge, &[(&[64, -64], None)])?;
-    expect_prices_a(&mut judge, &[(64, 1, None), (-64, 1, None)])?;
-    expect_prices_b(&mut judge, &[(64, 1, None), (-64, 1, None)])?;
+    let mut trial = made::<Hours, Needles>(rt.alloc(), 64, 64, 1024)?;
+    trial.expect_rules(&[(&[64, -64], None)])?;
+    trial.expect_prices(Cost::A, &[(64, 1, None), (-64, 1, None)])?;
+    trial.expect_prices(Cost::B, &[(64, 1, None), (-64, 1, None)])?;
     for mark in [65i8, -65, 0, 127, -127, -128] {
-        expect_rules(&mut judge, &[(&[1, mark], Some(10))])?;
-        expect_prices_a(&mut judge, &[(mark, 1, Some(10))])?;
-        expect_prices_b(&mut judge, &[(mark, 1, Some(10))])?;
+        trial.expect_rules(&[(&[1, mark], Some(10))])?;
+        trial.expect_prices(Cost::A, &[(mark, 1, Some(10))])?;
+        trial.expect_prices(Cost::B, &[(mark, 1, Some(10))])?;
     }
     Ok(())
 }
 
 #[test]
 fn rules_have_edges(rt: HostRuntime) -> Result<(), Fail> {
-    let mut judge = made::<Hours, Needles>(rt.alloc(), 64, 64, 20)?;
-    expect_rules(
-        &mut judge,
-        &[
-            (&[1, 2, 3, 4, 5, 6, 7, 8, 9], Some(9)),
-            (&[0, 0, 0, 0, 0, 0, 0, 0, 65], Some(9)),
-            // Nine of the twenty units.
-            (&[1, 2, 3, 4, 5, 6, 7, 64], None),
-            (&[1, 2, 3, 4, 5, 6, 7, -64], None),
-            (&[1, 2], Some(13)),
-            (&[65, 2], Some(10)),
-            (&[1, 2, 3, 4, 5, 6, 7, 8, 65], Some(9)),
-            (&[1], None),
-            (&[], Some(13)),
-        ],
-    )?;
-    assert!(rt; judge.seek(0, 0).is_some());
+    let mut trial = made::<Hours, Needles>(rt.alloc(), 64, 64, 20)?;
+    trial.expect_rules(&[
+        (&[1, 2, 3, 4, 5, 6, 7, 8, 9], Some(9)),
+        (&[0, 0, 0, 0, 0, 0, 0, 0, 65], Some(9)),
+        // Nine of the twenty units.
+        (&[1, 2, 3, 4, 5, 6, 7, 64], None),
+        (&[1, 2, 3, 4, 5, 6, 7, -64], None),
+        (&[1, 2], Some(13)),
+        (&[65, 2], Some(10)),
+        (&[1, 2, 3, 4, 5, 6, 7, 8, 65], Some(9)),
+        (&[1], None),
+        (&[], Some(13)),
+    ])?;
+    assert!(rt; trial.judge.seek(0, 0).is_some());
     Ok(())
 }
 
 #[test]
 fn prices_have_edges(rt: HostRuntime) -> Result<(), Fail> {
-    let mut judge = made::<Hours, Needles>(rt.alloc(), 10, 3, 100)?;
-    expect_prices_a(
-        &mut judge,
+    let mut trial = made::<Hours, Needles>(rt.alloc(), 10, 3, 100)?;
+    trial.expect_prices(
+        Cost::A,
         &[
             (1, 0, Some(11)),
             (1, 41, Some(11)),
@@ -186,8 +175,8 @@ fn prices_have_edges(rt: HostRuntime) -> Result<(), Fail> {
             (3, 7, Some(13)),
         ],
     )?;
-    expect_prices_b(
-        &mut judge,
+    trial.expect_prices(
+        Cost::B,
         &[
             (1, 0, Some(11)),
             (1, 25, Some(11)),
@@ -199,18 +188,18 @@ fn prices_have_edges(rt: HostRuntime) -> Result<(), Fail> {
             (4, 7, Some(13)),
         ],
     )?;
-    assert_eq!(rt; judge.costs(0b11), (40, 24));
-    assert_eq!(rt; judge.costs(0b110), (8, 7));
+    assert_eq!(rt; trial.judge.costs(0b11), (40, 24));
+    assert_eq!(rt; trial.judge.costs(0b110), (8, 7));
     Ok(())
 }
 
 // To a full cost all four refusals of a price apply, then one less each time; and so for a rule.
 #[test]
 fn the_first_refusal_counts(rt: HostRuntime) -> Result<(), Fail> {
-    let mut judge = made::<Needles, Hours>(rt.alloc(), 10, 1, 1)?;
-    expect_prices_a(&mut judge, &[(5, 3, None)])?;
-    expect_prices_a(
-        &mut judge,
+    let mut trial = made::<Needles, Hours>(rt.alloc(), 10, 1, 1)?;
+    trial.expect_prices(Cost::A, &[(5, 3, None)])?;
+    trial.expect_prices(
+        Cost::A,
         &[
             (11, 25, Some(10)),
             (5, 25, Some(11)),
@@ -218,9 +207,9 @@ fn the_first_refusal_counts(rt: HostRuntime) -> Result<(), Fail> {
             (-5, 24, Some(13)),
         ],
     )?;
-    expect_prices_b(&mut judge, &[(5, 3, None)])?;
-    expect_prices_b(
-        &mut judge,
+    trial.expect_prices(Cost::B, &[(5, 3, None)])?;
+    trial.expect_prices(
+        Cost::B,
         &[
             (-11, 0, Some(10)),
             (5, 41, Some(11)),
@@ -228,54 +217,48 @@ fn the_first_refusal_counts(rt: HostRuntime) -> Result<(), Fail> {
             (-5, 40, Some(13)),
         ],
     )?;
-    expect_rules(
-        &mut judge,
-        &[
-            (&[1, 2, 3, 4, 5, 6, 7, 8, 11], Some(9)),
-            (&[1, -11], Some(10)),
-        ],
-    )?;
-    expect_rules(&mut judge, &[(&[1], Some(13)), (&[], None)])?;
+    trial.expect_rules(&[
+        (&[1, 2, 3, 4, 5, 6, 7, 8, 11], Some(9)),
+        (&[1, -11], Some(10)),
+    ])?;
+    trial.expect_rules(&[(&[1], Some(13)), (&[], None)])?;
     Ok(())
 }
 
-fn fill_prices_to_the_edge<J: Judge>(judge: &mut J) -> Result<(), Fail> {
+fn fill_prices_to_the_edge<J: Judge>(trial: &mut Trial<J>) -> Result<(), Fail> {
     for choice in 1..65i8 {
-        expect_prices_a(judge, &[(choice, 3, None)])?;
-        expect_prices_b(judge, &[(choice.wrapping_neg(), 1, None)])?;
+        trial.expect_prices(Cost::A, &[(choice, 3, None)])?;
+        trial.expect_prices(Cost::B, &[(choice.wrapping_neg(), 1, None)])?;
     }
-    expect_prices_a(judge, &[(-1, 3, Some(13))])?;
-    expect_prices_b(judge, &[(1, 1, Some(13))])?;
+    trial.expect_prices(Cost::A, &[(-1, 3, Some(13))])?;
+    trial.expect_prices(Cost::B, &[(1, 1, Some(13))])?;
     Ok(())
 }
 
-fn fill_rules_to_the_edge<J: Judge>(judge: &mut J) -> Result<(), Fail> {
+fn fill_rules_to_the_edge<J: Judge>(trial: &mut Trial<J>) -> Result<(), Fail> {
     for _ in 0..113u8 {
-        expect_rules(judge, &[(&[57, 58, 59, 60, 61, 62, 63, 64], None)])?;
+        trial.expect_rules(&[(&[57, 58, 59, 60, 61, 62, 63, 64], None)])?;
     }
-    expect_rules(
-        judge,
-        &[
-            (&[1, 2, 3, 4, 5, 6, 7], Some(13)),
-            (&[1, 2, 3, 4, 5, 6], None),
-        ],
-    )?;
-    expect_rules(judge, &[(&[], Some(13))])?;
+    trial.expect_rules(&[
+        (&[1, 2, 3, 4, 5, 6, 7], Some(13)),
+        (&[1, 2, 3, 4, 5, 6], None),
+    ])?;
+    trial.expect_rules(&[(&[], Some(13))])?;
     Ok(())
 }
 
 // Q and R at their largest, filled to the edge and one past.
 #[test]
 fn the_largest_rooms_fill(rt: HostRuntime) -> Result<(), Fail> {
-    let mut judge = made::<Sum200, Skips>(rt.alloc(), 64, 64, 1024)?;
-    fill_prices_to_the_edge(&mut judge)?;
-    assert_eq!(rt; judge.costs(u64::MAX), (192, 0));
-    assert_eq!(rt; judge.costs(u64::MAX / 2), (189, 1));
-    fill_rules_to_the_edge(&mut judge)?;
-    assert_eq!(rt; judge.seek(192, 0), Some(u64::MAX));
-    assert_eq!(rt; judge.seek(191, 0), None);
-    assert_eq!(rt; judge.seek(5, 255), None);
-    assert!(rt; judge.seek(6, 3).is_some());
+    let mut trial = made::<Sum200, Skips>(rt.alloc(), 64, 64, 1024)?;
+    fill_prices_to_the_edge(&mut trial)?;
+    assert_eq!(rt; trial.judge.costs(u64::MAX), (192, 0));
+    assert_eq!(rt; trial.judge.costs(u64::MAX / 2), (189, 1));
+    fill_rules_to_the_edge(&mut trial)?;
+    assert_eq!(rt; trial.judge.seek(192, 0), Some(u64::MAX));
+    assert_eq!(rt; trial.judge.seek(191, 0), None);
+    assert_eq!(rt; trial.judge.seek(5, 255), None);
+    assert!(rt; trial.judge.seek(6, 3).is_some());
     Ok(())
 }
 
@@ -283,23 +266,22 @@ fn the_largest_rooms_fill(rt: HostRuntime) -> Result<(), Fail> {
 fn impossible_rules_leave_no_plan(rt: HostRuntime) -> Result<(), Fail> {
     let heap = rt.alloc();
     let mut random = Random::new(31);
-    let mut judge = made::<Hours, Skips>(heap, 6, 64, 1024)?;
-    let mut draft = Draft::new(heap, 6, 64, 1024, 6);
-    assert!(rt; enter_rule(&mut judge, &mut draft, heap, &[])?);
-    compare(&mut judge, &draft, heap, &mut random)?;
+    let mut trial = made::<Hours, Skips>(heap, 6, 64, 1024)?;
+    trial.expect_rules(&[(&[], None)])?;
+    trial.compare(&mut random)?;
     let mut opposed = made::<Hours, Skips>(heap, 64, 64, 1024)?;
-    expect_rules(&mut opposed, &[(&[1], None)])?;
-    assert!(rt; opposed.seek(0, 0).is_some());
-    expect_rules(&mut opposed, &[(&[-1], None)])?;
-    assert_eq!(rt; opposed.seek(0, 0), None);
-    assert_eq!(rt; opposed.seek(255, 255), None);
+    opposed.expect_rules(&[(&[1], None)])?;
+    assert!(rt; opposed.judge.seek(0, 0).is_some());
+    opposed.expect_rules(&[(&[-1], None)])?;
+    assert_eq!(rt; opposed.judge.seek(0, 0), None);
+    assert_eq!(rt; opposed.judge.seek(255, 255), None);
     Ok(())
 }
 
 #[test]
 fn free_choices_cost_nothing(rt: HostRuntime) -> Result<(), Fail> {
-    let mut judge = made::<Hours, Needles>(rt.alloc(), 64, 64, 1024)?;
-    assert!(rt; judge.seek(0, 0).is_some());
-    assert_eq!(rt; judge.costs(u64::MAX), (0, 0));
+    let mut trial = made::<Hours, Needles>(rt.alloc(), 64, 64, 1024)?;
+    assert!(rt; trial.judge.seek(0, 0).is_some());
+    assert_eq!(rt; trial.judge.costs(u64::MAX), (0, 0));
     Ok(())
 }

@@ -1,23 +1,12 @@
 use crate::model::Model;
-use crate::turns::{enter_price_a, enter_price_b, enter_rule, read, restart, step};
-use checks::draft::Draft;
+use crate::turns::Watched;
+use checks::draft::{Cost, Draft};
+use checks::drive::top_of;
 use checks::random::Random;
 use design::Price;
 use judge::Judge;
-use planner::Planner;
-use scales::Scale;
-use std::alloc::{AllocError, Global};
 use std::process::Abort;
 use std::test::Fail;
-
-// A mark that may rarely be any byte.
-fn draw_mark(random: &mut Random, draft: &Draft) -> i8 {
-    if random.once_in(40) {
-        i8::from_le_bytes([random.below(255)])
-    } else {
-        random.mark(draft.choices, draft.span)
-    }
-}
 
 // How many marks a rule has: mostly 2 or 3, rarely none, or too many.
 fn draw_length(random: &mut Random) -> u8 {
@@ -31,23 +20,18 @@ fn draw_length(random: &mut Random) -> u8 {
     }
 }
 
-fn draw_rule(random: &mut Random, heap: Global, draft: &Draft) -> Result<Vec<i8>, AllocError> {
-    let mut marks = Vec::new(heap);
-    for _ in 0..draw_length(random) {
-        marks.push(draw_mark(random, draft))?;
-    }
-    Ok(marks)
-}
-
-// A price, mostly of a choice made, or mostly of one not made, so that the two costs pull apart. Its
-// place is rarely 0 or above the top.
-fn draw_price(random: &mut Random, draft: &Draft, top: u8, is_made: bool) -> Price {
-    let drawn = draw_mark(random, draft);
-    let is_turned = (drawn > 0) != is_made && !random.once_in(4);
-    let mark = if is_turned {
-        drawn.wrapping_neg()
-    } else {
+// A price, mostly of a choice made in cost A and of one not made in cost B, so that the two pull
+// apart. Its place is rarely 0 or above the top.
+fn draw_price(random: &mut Random, draft: &Draft, cost: Cost, top: u8) -> Price {
+    let drawn = draft.draw_any_mark(random, 40);
+    let is_fitting = match cost {
+        Cost::A => drawn > 0,
+        Cost::B => drawn <= 0,
+    };
+    let mark = if is_fitting || random.once_in(4) {
         drawn
+    } else {
+        drawn.wrapping_neg()
     };
     let place = match random.below(32) {
         0 => 0,
@@ -55,30 +39,6 @@ fn draw_price(random: &mut Random, draft: &Draft, top: u8, is_made: bool) -> Pri
         _ => random.place(top),
     };
     Price { mark, place }
-}
-
-// A rule or a price, which the judge may refuse.
-fn enter_any<J: Judge>(
-    rt: &impl Abort,
-    planner: &mut Planner<J>,
-    model: &mut Model,
-    heap: Global,
-    random: &mut Random,
-) -> Result<(), Fail> {
-    match random.below(11) {
-        0..=1 => {
-            let marks = draw_rule(random, heap, &model.draft)?;
-            enter_rule(rt, planner, model, heap, marks.as_slice())
-        }
-        2..=5 => {
-            let price = draw_price(random, &model.draft, J::CostA::TOP, true);
-            enter_price_a(rt, planner, model, price)
-        }
-        _ => {
-            let price = draw_price(random, &model.draft, J::CostB::TOP, false);
-            enter_price_b(rt, planner, model, price)
-        }
-    }
 }
 
 // An index, mostly of the list or next to it.
@@ -90,48 +50,58 @@ fn draw_index(random: &mut Random, model: &Model) -> u8 {
     random.below(count.saturating_add(2))
 }
 
-fn call_any<J: Judge>(
-    rt: &impl Abort,
-    planner: &mut Planner<J>,
-    model: &mut Model,
-    heap: Global,
-    random: &mut Random,
-) -> Result<(), Fail> {
-    match random.below(16) {
-        0..=3 => enter_any(rt, planner, model, heap, random),
-        4..=9 => step(rt, planner, model, heap),
-        10 => {
-            restart(planner, model);
-            Ok(())
+impl<J: Judge> Watched<J> {
+    fn enter_any_rule(&mut self, rt: &impl Abort, random: &mut Random) -> Result<(), Fail> {
+        let length = draw_length(random);
+        let marks = self.model.draft.draw_any_rule(random, 40, length)?;
+        self.enter_rule(rt, marks.as_slice())
+    }
+
+    fn enter_any_price(
+        &mut self,
+        rt: &impl Abort,
+        random: &mut Random,
+        cost: Cost,
+    ) -> Result<(), Fail> {
+        let price = draw_price(random, &self.model.draft, cost, top_of::<J>(cost));
+        self.enter_price(rt, cost, price)
+    }
+
+    // A rule or a price, which the judge may refuse.
+    fn enter_any(&mut self, rt: &impl Abort, random: &mut Random) -> Result<(), Fail> {
+        match random.below(11) {
+            0..=1 => self.enter_any_rule(rt, random),
+            2..=5 => self.enter_any_price(rt, random, Cost::A),
+            _ => self.enter_any_price(rt, random, Cost::B),
         }
-        _ => read(rt, planner, model, draw_index(random, model)),
     }
-}
 
-// Some entries, refused where a listing is open.
-pub(crate) fn enter_some<J: Judge>(
-    rt: &impl Abort,
-    planner: &mut Planner<J>,
-    model: &mut Model,
-    heap: Global,
-    random: &mut Random,
-) -> Result<(), Fail> {
-    for _ in 0..random.below(20) {
-        enter_any(rt, planner, model, heap, random)?;
+    fn call_any(&mut self, rt: &impl Abort, random: &mut Random) -> Result<(), Fail> {
+        match random.below(16) {
+            0..=3 => self.enter_any(rt, random)?,
+            4..=9 => self.step(rt)?,
+            10 => self.restart(),
+            _ => {
+                let index = draw_index(random, &self.model);
+                self.read(rt, index);
+            }
+        }
+        Ok(())
     }
-    Ok(())
-}
 
-// Some calls of all six kinds.
-pub(crate) fn call_some<J: Judge>(
-    rt: &impl Abort,
-    planner: &mut Planner<J>,
-    model: &mut Model,
-    heap: Global,
-    random: &mut Random,
-) -> Result<(), Fail> {
-    for _ in 0..random.below(40) {
-        call_any(rt, planner, model, heap, random)?;
+    // Some entries, refused where a listing is open.
+    pub(crate) fn enter_some(&mut self, rt: &impl Abort, random: &mut Random) -> Result<(), Fail> {
+        for _ in 0..random.below(20) {
+            self.enter_any(rt, random)?;
+        }
+        Ok(())
     }
-    Ok(())
+
+    // Some calls of all six kinds.
+    pub(crate) fn call_some(&mut self, rt: &impl Abort, random: &mut Random) -> Result<(), Fail> {
+        for _ in 0..random.below(40) {
+            self.call_any(rt, random)?;
+        }
+        Ok(())
+    }
 }

@@ -4,8 +4,6 @@
 #[cfg(test)]
 mod draws;
 #[cfg(test)]
-mod front;
-#[cfg(test)]
 mod model;
 #[cfg(test)]
 mod samples;

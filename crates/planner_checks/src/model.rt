@@ -1,34 +1,36 @@
-use crate::front::front_of;
 use checks::draft::Draft;
+use checks::sweep::Sweep;
 use design::Layer;
 use planner::PlannerFault;
 use scales::Scale;
-use std::alloc::{AllocError, Global};
+use std::alloc::AllocError;
 
 // How a planner refuses.
 #[derive(Clone, Copy, PartialEq, Eq, Debug)]
 pub(crate) enum Refusal {
     ListingOpen,
     NoEntry,
-    // The judge's refusal, by its number.
+    // The judge's refusal: the published number is what the tests hold.
     Judge(u8),
     // A fault that is not of the judge's layer.
     Stray,
 }
 
-pub(crate) fn refusal_of(fault: PlannerFault) -> Refusal {
-    match fault {
-        PlannerFault::ListingOpen => Refusal::ListingOpen,
-        PlannerFault::NoEntry => Refusal::NoEntry,
-        PlannerFault::Judge(fault) if fault.layer() == Layer::Judge => {
-            Refusal::Judge(fault.number())
+impl From<PlannerFault> for Refusal {
+    fn from(fault: PlannerFault) -> Refusal {
+        match fault {
+            PlannerFault::ListingOpen => Refusal::ListingOpen,
+            PlannerFault::NoEntry => Refusal::NoEntry,
+            PlannerFault::Judge(fault) if fault.layer() == Layer::Judge => {
+                Refusal::Judge(fault.number())
+            }
+            PlannerFault::Judge(_) => Refusal::Stray,
         }
-        PlannerFault::Judge(_) => Refusal::Stray,
     }
 }
 
 // How often each kind of answer came, so that a test can see that all of them did.
-#[derive(Clone, Copy)]
+#[derive(Clone, Copy, Default)]
 pub(crate) struct Tally {
     pub(crate) accepted: u32,
     pub(crate) refused: u32,
@@ -43,20 +45,6 @@ pub(crate) struct Tally {
 }
 
 impl Tally {
-    pub(crate) fn new() -> Tally {
-        Tally {
-            accepted: 0,
-            refused: 0,
-            while_open: 0,
-            points: 0,
-            ended: 0,
-            restarts: 0,
-            found: 0,
-            missing: 0,
-            longest: 0,
-        }
-    }
-
     fn note_entry(&mut self, owed: Result<(), Refusal>) {
         match owed {
             Ok(()) => self.accepted = self.accepted.saturating_add(1),
@@ -80,7 +68,8 @@ pub(crate) struct Model {
 }
 
 impl Model {
-    pub(crate) fn new(heap: Global, draft: Draft, tally: Tally) -> Model {
+    pub(crate) fn new(draft: Draft, tally: Tally) -> Model {
+        let heap = draft.heap;
         Model {
             draft,
             front: Vec::new(heap),
@@ -102,12 +91,9 @@ impl Model {
     }
 
     // The point that a step is owed, or that it ends.
-    pub(crate) fn step<A: Scale, B: Scale>(
-        &mut self,
-        heap: Global,
-    ) -> Result<Option<(u8, u8)>, AllocError> {
+    pub(crate) fn step<A: Scale, B: Scale>(&mut self) -> Result<Option<(u8, u8)>, AllocError> {
         if !self.is_open {
-            self.front = front_of::<A, B>(heap, &self.draft)?;
+            self.front = Sweep::of::<A, B>(&self.draft)?.front(self.draft.heap)?;
             self.is_open = true;
         }
         let Some(next) = self.front.get(self.listed.len()).copied() else {

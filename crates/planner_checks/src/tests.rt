@@ -1,37 +1,18 @@
-use crate::draws::{call_some, enter_some};
-use crate::model::{Model, Tally};
-use crate::turns::{enter_prices_a, enter_prices_b, list_all, read_all, restart};
-use checks::draft::Draft;
+use crate::model::Tally;
+use crate::turns::Watched;
+use checks::draft::{Cost, Draft};
 use checks::random::Random;
+use design::Price;
 use judge::{Judge, check_sizes};
-use plain::{Plain, Room};
-use planner::{ListRoom, Planner};
+use plain::Plain;
 use scales::{Hours, Needles, Scale};
 use std::alloc::Global;
 use std::process::Abort;
 use std::test::Fail;
 use test_scales::{Skips, Sum200};
 
-pub(crate) fn made_judge<A: Scale, B: Scale>(
-    heap: Global,
-    draft: &Draft,
-) -> Result<Plain<A, B>, Fail> {
-    match check_sizes(draft.choices, draft.price_room, draft.rule_room) {
-        Ok(sizes) => Ok(Plain::<A, B>::new(Room::new(heap)?, sizes)),
-        Err(fault) => Err(Fail::new(fault.number())),
-    }
-}
-
-pub(crate) fn made<A: Scale, B: Scale>(
-    heap: Global,
-    draft: &Draft,
-) -> Result<Planner<Plain<A, B>>, Fail> {
-    let judge = made_judge::<A, B>(heap, draft)?;
-    Ok(Planner::new(judge, ListRoom::new(heap)?))
-}
-
 // An empty draft of 1 to 8 choices, whose rooms are sometimes too small for what is entered.
-fn draw_draft(random: &mut Random, heap: Global) -> Draft {
+fn draw_draft(random: &mut Random, heap: Global) -> Result<Draft, Fail> {
     let choices = random.below(8).max(random.below(8)).saturating_add(1);
     let price_room = if random.once_in(3) {
         random.below(6).saturating_add(1)
@@ -43,36 +24,22 @@ fn draw_draft(random: &mut Random, heap: Global) -> Draft {
     } else {
         1024
     };
-    Draft::new(heap, choices, price_room, rule_room, choices)
-}
-
-// Lists all, and all once more after a restart.
-fn list_twice<J: Judge>(
-    rt: &impl Abort,
-    planner: &mut Planner<J>,
-    model: &mut Model,
-    heap: Global,
-) -> Result<(), Fail> {
-    list_all(rt, planner, model, heap)?;
-    restart(planner, model);
-    read_all(rt, planner, model)?;
-    list_all(rt, planner, model, heap)
+    let sizes = check_sizes(choices, price_room, rule_room)?;
+    Ok(Draft::new(heap, sizes, choices))
 }
 
 // A run on one design, which grows from round to round.
 fn run_design<J: Judge>(
     rt: &impl Abort,
-    planner: &mut Planner<J>,
-    model: &mut Model,
-    heap: Global,
+    watched: &mut Watched<J>,
     random: &mut Random,
 ) -> Result<(), Fail> {
     for _ in 0..3u8 {
-        enter_some(rt, planner, model, heap, random)?;
-        call_some(rt, planner, model, heap, random)?;
-        list_twice(rt, planner, model, heap)?;
-        enter_some(rt, planner, model, heap, random)?;
-        restart(planner, model);
+        watched.enter_some(rt, random)?;
+        watched.call_some(rt, random)?;
+        watched.list_twice(rt)?;
+        watched.enter_some(rt, random)?;
+        watched.restart();
     }
     Ok(())
 }
@@ -84,13 +51,12 @@ fn run_designs<A: Scale, B: Scale>(
     count: u16,
 ) -> Result<Tally, Fail> {
     let mut random = Random::new(seed);
-    let mut tally = Tally::new();
+    let mut tally = Tally::default();
     for _ in 0..count {
-        let draft = draw_draft(&mut random, heap);
-        let mut planner = made::<A, B>(heap, &draft)?;
-        let mut model = Model::new(heap, draft, tally);
-        run_design(rt, &mut planner, &mut model, heap, &mut random)?;
-        tally = model.tally;
+        let draft = draw_draft(&mut random, heap)?;
+        let mut watched = Watched::<Plain<A, B>>::plain(draft, tally)?;
+        run_design(rt, &mut watched, &mut random)?;
+        tally = watched.model.tally;
     }
     Ok(tally)
 }
@@ -134,68 +100,41 @@ fn runs_on_sums(rt: HostRuntime) -> Result<(), Fail> {
 }
 
 // From (0, 200) to (200, 0).
-fn step_through_sums<J: Judge>(rt: &impl Abort, planner: &mut Planner<J>) {
+fn step_through_sums<J: Judge>(rt: &impl Abort, watched: &mut Watched<J>) {
     for a in 0..=200u8 {
-        assert_eq!(rt; planner.step(), Some((a, 200u8.saturating_sub(a))));
+        assert_eq!(rt; watched.planner.step(), Some((a, 200u8.saturating_sub(a))));
     }
-    assert_eq!(rt; planner.step(), None);
+    assert_eq!(rt; watched.planner.step(), None);
 }
 
 // Each of eight choices costs its weight in A if it is made, and in B if it is not; the weights sum to
 // every number up to 200.
-fn weigh<J: Judge>(
-    rt: &impl Abort,
-    planner: &mut Planner<J>,
-    model: &mut Model,
-) -> Result<(), Fail> {
-    let made_marks = [
-        (1, 1),
-        (2, 2),
-        (3, 4),
-        (4, 8),
-        (5, 16),
-        (6, 32),
-        (7, 64),
-        (8, 73),
-    ];
-    enter_prices_a(rt, planner, model, &made_marks)?;
-    let unmade_marks = [
-        (-1, 1),
-        (-2, 2),
-        (-3, 4),
-        (-4, 8),
-        (-5, 16),
-        (-6, 32),
-        (-7, 64),
-        (-8, 73),
-    ];
-    enter_prices_b(rt, planner, model, &unmade_marks)
+fn weigh<J: Judge>(rt: &impl Abort, watched: &mut Watched<J>) -> Result<(), Fail> {
+    for (mark, place) in (1..=8i8).zip([1u8, 2, 4, 8, 16, 32, 64, 73]) {
+        watched.enter_price(rt, Cost::A, Price { mark, place })?;
+        let mark = mark.wrapping_neg();
+        watched.enter_price(rt, Cost::B, Price { mark, place })?;
+    }
+    Ok(())
 }
 
 // Lists all 201 points, written out, and then twice more beside the sweep.
-fn list_sums<J: Judge>(
-    rt: &impl Abort,
-    planner: &mut Planner<J>,
-    model: &mut Model,
-    heap: Global,
-) -> Result<(), Fail> {
-    weigh(rt, planner, model)?;
-    step_through_sums(rt, planner);
-    assert!(rt; planner.read(200).is_ok());
-    assert!(rt; planner.read(201).is_err());
-    restart(planner, model);
-    list_twice(rt, planner, model, heap)?;
-    assert_eq!(rt; model.listed.len(), 201);
-    assert_eq!(rt; model.tally.found, 402);
-    assert_eq!(rt; model.tally.missing, 366);
+fn list_sums<J: Judge>(rt: &impl Abort, watched: &mut Watched<J>) -> Result<(), Fail> {
+    weigh(rt, watched)?;
+    step_through_sums(rt, watched);
+    assert!(rt; watched.planner.read(200).is_ok());
+    assert!(rt; watched.planner.read(201).is_err());
+    watched.restart();
+    watched.list_twice(rt)?;
+    assert_eq!(rt; watched.model.listed.len(), 201);
+    assert_eq!(rt; watched.model.tally.found, 402);
+    assert_eq!(rt; watched.model.tally.missing, 366);
     Ok(())
 }
 
 #[test]
 fn the_longest_list_fits(rt: HostRuntime) -> Result<(), Fail> {
-    let heap = rt.alloc();
-    let draft = Draft::new(heap, 8, 64, 1024, 8);
-    let mut planner = made::<Sum200, Sum200>(heap, &draft)?;
-    let mut model = Model::new(heap, draft, Tally::new());
-    list_sums(&rt, &mut planner, &mut model, heap)
+    let draft = Draft::new(rt.alloc(), check_sizes(8, 64, 1024)?, 8);
+    let mut watched = Watched::<Plain<Sum200, Sum200>>::plain(draft, Tally::default())?;
+    list_sums(&rt, &mut watched)
 }

@@ -1,6 +1,7 @@
-use crate::model::{Refusal, refusal_of};
-use crate::tests::made_judge;
+use crate::model::Refusal;
 use checks::draft::Draft;
+use judge::check_sizes;
+use plain::Plain;
 use planner::{Call, Entry, ListRoom, Outcome, RuleMarks, Turn, run};
 use scales::{Hours, Needles};
 use std::alloc::{AllocError, Global};
@@ -32,14 +33,14 @@ fn turns_of(heap: Global, script: &[(Call, Told)]) -> Result<Vec<Turn>, AllocErr
 fn compare_turns(rt: &impl Abort, turns: &[Turn], script: &[(Call, Told)]) {
     assert_eq!(rt; turns.len(), script.len());
     for (turn, (_, told)) in turns.iter().zip(script) {
-        assert_eq!(rt; turn.outcome.map_err(refusal_of), *told);
+        assert_eq!(rt; turn.outcome.map_err(Refusal::from), *told);
     }
 }
 
 // Plays a script on a planner of two choices.
 fn play(rt: &impl Abort, heap: Global, script: &[(Call, Told)]) -> Result<(), Fail> {
-    let draft = Draft::new(heap, 2, 64, 1024, 2);
-    let judge = made_judge::<Hours, Needles>(heap, &draft)?;
+    let draft = Draft::new(heap, check_sizes(2, 64, 1024)?, 2);
+    let judge: Plain<Hours, Needles> = draft.plain()?;
     let mut turns = turns_of(heap, script)?;
     let planner = run(judge, ListRoom::new(heap)?, turns.as_mut_slice());
     compare_turns(rt, turns.as_slice(), script);

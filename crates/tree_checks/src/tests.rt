@@ -1,9 +1,9 @@
 use checks::draft::Draft;
-use checks::drive::compare;
-use checks::fill::{fill_and_compare, provoke};
+use checks::drive::Trial;
 use checks::random::Random;
 use checks::sweep::Sweep;
 use deciding::{Kind, Search};
+use design::Layer;
 use judge::{Judge, Sizes, check_sizes};
 use layers::{Limit, Swap};
 use plain::Room;
@@ -11,7 +11,7 @@ use planner::{ListRoom, Planner};
 use scales::{Hours, Needles, Scale};
 use settling::BySettling;
 use solver::Solver;
-use std::alloc::Global;
+use std::alloc::{AllocError, Global};
 use std::process::Abort;
 use std::test::Fail;
 use stepping::ByStepping;
@@ -20,14 +20,10 @@ use test_scales::Skips;
 use tree::{Tree, check_tree, choices_needed, room_needed};
 
 // Steps through the points that no plan beats, and to the end of the list.
-fn expect_front<J: Judge + Drop>(
-    rt: &impl Abort,
-    heap: Global,
-    judge: J,
-    draft: &Draft,
-) -> Result<(), Fail> {
-    let front = Sweep::of::<J::CostA, J::CostB>(heap, draft)?.front(heap)?;
-    let mut planner = Planner::new(judge, ListRoom::new(heap)?);
+fn expect_front<J: Judge + Drop>(rt: &impl Abort, trial: Trial<J>) -> Result<(), Fail> {
+    let Trial { judge, draft } = trial;
+    let front = Sweep::of::<J::CostA, J::CostB>(&draft)?.front(draft.heap)?;
+    let mut planner = Planner::new(judge, ListRoom::new(draft.heap)?);
     for point in front.as_slice() {
         assert_eq!(rt; planner.step(), Some(*point));
     }
@@ -38,20 +34,17 @@ fn expect_front<J: Judge + Drop>(
 // A judge at every pair of bounds, first empty and then filled, and its whole list.
 fn compare_judge<J: Judge + Drop>(
     rt: &impl Abort,
-    judge: J,
-    draft: Draft,
-    heap: Global,
+    mut trial: Trial<J>,
     random: &mut Random,
 ) -> Result<(), Fail> {
-    let (mut judge, mut draft) = (judge, draft);
     if random.once_in(4) {
-        compare(&mut judge, &draft, heap, random)?;
+        trial.compare(random)?;
     }
-    fill_and_compare(&mut judge, &mut draft, heap, random)?;
+    trial.fill_and_compare(random)?;
     if random.once_in(4) {
-        provoke(&mut judge, &mut draft, heap, random)?;
+        trial.provoke(random)?;
     }
-    expect_front(rt, heap, judge, &draft)
+    expect_front(rt, trial)
 }
 
 // The tree alone, and with its costs exchanged and limited.
@@ -63,45 +56,33 @@ fn compare_tree<A: Scale, B: Scale, S: Solver + Drop>(
     random: &mut Random,
 ) -> Result<(), Fail> {
     let tree: Tree<A, B, S> = Tree::new(Room::new(heap)?, sizes, solver);
-    let mut draft = Draft::new(
-        heap,
-        sizes.choices,
-        sizes.price_room,
-        sizes.rule_room,
-        sizes.choices,
-    );
+    let mut draft = Draft::new(heap, sizes, sizes.choices);
     if random.once_in(3) {
         let limit = random.below(B::TOP);
         draft.limit_a = limit;
-        return compare_judge(
-            rt,
-            Limit::new(Swap::new(tree), limit, 255),
-            draft,
-            heap,
-            random,
-        );
+        let pile = Limit::new(Swap::new(tree), limit, 255);
+        return compare_judge(rt, Trial::new(pile, draft), random);
     }
-    compare_judge(rt, tree, draft, heap, random)
+    compare_judge(rt, Trial::new(tree, draft), random)
+}
+
+// What a solver of M choices and K numbers stands in.
+fn memory_of(heap: Global, choices: u16, numbers: usize) -> Result<Vec<i16>, AllocError> {
+    let length = numbers.saturating_add(usize::from(choices).saturating_mul(4));
+    Ok(vec![in heap; 0i16; length]?)
 }
 
 fn compare_sizes<A: Scale, B: Scale, K: Search>(
     rt: &impl Abort,
-    choices: u8,
-    price_room: u8,
+    sizes: Sizes,
     heap: Global,
     random: &mut Random,
 ) -> Result<(), Fail> {
-    let Ok(sizes) = check_sizes(choices, price_room, 60) else {
-        return Err(Fail::new("the sizes are out of range"));
-    };
     let needed = choices_needed::<A, B>(sizes);
     let numbers = room_needed::<A, B>(sizes);
-    let length = numbers.saturating_add(usize::from(needed).saturating_mul(4));
-    let mut memory = vec![in heap; 0i16; length]?;
+    let mut memory = memory_of(heap, needed, numbers)?;
     let cells = memory.as_mut_slice();
-    let Ok(lent) = check_store(needed, numbers, cells) else {
-        return Err(Fail::new("the store is too small"));
-    };
+    let lent = check_store(needed, numbers, cells)?;
     let solver: Kind<K> = Kind::new(lent, cells);
     compare_tree::<A, B, Kind<K>>(rt, solver, sizes, heap, random)
 }
@@ -119,7 +100,8 @@ fn designs<A: Scale, B: Scale, K: Search>(
     for k in 0..count {
         let choices = random.below(most).saturating_add(1);
         let price_room = (k % prices.max(1)).saturating_add(1);
-        compare_sizes::<A, B, K>(rt, choices, price_room, heap, &mut random)?;
+        let sizes = check_sizes(choices, price_room, 60)?;
+        compare_sizes::<A, B, K>(rt, sizes, heap, &mut random)?;
     }
     Ok(())
 }
@@ -141,35 +123,26 @@ fn stepping_agrees_with_the_sweep(rt: HostRuntime) -> Result<(), Fail> {
 }
 
 // The refusal of a tree's making, if any, on a solver of the given M and K.
-fn refused_by<S: Solver + Drop>(solver: S, sizes: (u8, u8, u16)) -> Option<(u8, &'static str)> {
+fn refused_by<S: Solver + Drop>(solver: S, sizes: (u8, u8, u16)) -> Option<(u8, Layer)> {
     let (choices, price_room, rule_room) = sizes;
-    match check_tree::<Hours, Needles, S>(choices, price_room, rule_room, &solver) {
-        Ok(_) => None,
-        Err(fault) => Some((fault.number(), fault.layer().name())),
-    }
+    let made = check_tree::<Hours, Needles, S>(choices, price_room, rule_room, &solver);
+    made.err().map(|fault| (fault.number(), fault.layer()))
 }
 
+// The published number is what the test holds.
 fn expect_making(
     rt: &impl Abort,
     heap: Global,
     choices: u16,
     room: usize,
     sizes: (u8, u8, u16),
-    owed: Option<(u8, &'static str)>,
+    owed: Option<(u8, Layer)>,
 ) -> Result<(), Fail> {
-    let length = room.saturating_add(usize::from(choices).saturating_mul(4));
-    let mut memory = vec![in heap; 0i16; length]?;
+    let mut memory = memory_of(heap, choices, room)?;
     let cells = memory.as_mut_slice();
-    let Ok(lent) = check_store(choices, room, cells) else {
-        return Err(Fail::new("the store is too small"));
-    };
+    let lent = check_store(choices, room, cells)?;
     let solver: Kind<BySettling> = Kind::new(lent, cells);
-    let given = refused_by(solver, sizes);
-    assert!(rt; given.is_none() == owed.is_none());
-    if let (Some((number, layer)), Some((n, l))) = (given, owed) {
-        assert_eq!(rt; number, n);
-        assert!(rt; layer == l);
-    }
+    assert_eq!(rt; refused_by(solver, sizes), owed);
     Ok(())
 }
 
@@ -177,10 +150,45 @@ fn expect_making(
 fn makings_have_edges(rt: HostRuntime) -> Result<(), Fail> {
     let heap = rt.alloc();
     expect_making(&rt, heap, 256, 28672, (64, 4, 1024), None)?;
-    expect_making(&rt, heap, 255, 28672, (64, 4, 1024), Some((7, "solver")))?;
-    expect_making(&rt, heap, 256, 28671, (64, 4, 1024), Some((7, "solver")))?;
-    expect_making(&rt, heap, 256, 28672, (65, 4, 1024), Some((5, "judge")))?;
-    expect_making(&rt, heap, 256, 28672, (64, 65, 1024), Some((6, "judge")))?;
-    expect_making(&rt, heap, 256, 28672, (64, 5, 1024), Some((7, "solver")))?;
+    expect_making(
+        &rt,
+        heap,
+        255,
+        28672,
+        (64, 4, 1024),
+        Some((7, Layer::Solver)),
+    )?;
+    expect_making(
+        &rt,
+        heap,
+        256,
+        28671,
+        (64, 4, 1024),
+        Some((7, Layer::Solver)),
+    )?;
+    expect_making(
+        &rt,
+        heap,
+        256,
+        28672,
+        (65, 4, 1024),
+        Some((5, Layer::Judge)),
+    )?;
+    expect_making(
+        &rt,
+        heap,
+        256,
+        28672,
+        (64, 65, 1024),
+        Some((6, Layer::Judge)),
+    )?;
+    expect_making(
+        &rt,
+        heap,
+        256,
+        28672,
+        (64, 5, 1024),
+        Some((7, Layer::Solver)),
+    )?;
     expect_making(&rt, heap, 64, 1024, (64, 1, 1024), None)
 }
