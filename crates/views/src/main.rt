@@ -80,28 +80,25 @@ fn show_run<F: FnOnce(ListRoom, &mut [Turn])>(
     Ok(())
 }
 
-fn by_hours(rt: &HostRuntime, heap: Global) -> anyhow::Result<()> {
-    println!(rt; "by hours")?;
-    let judge = edging(heap)?;
+fn show_list<J: Judge + Drop>(rt: &HostRuntime, heap: Global, judge: J) -> anyhow::Result<()> {
     show_run(rt, heap, |room, turns| {
         run(judge, room, turns);
     })
+}
+
+fn by_hours(rt: &HostRuntime, heap: Global) -> anyhow::Result<()> {
+    println!(rt; "by hours")?;
+    show_list(rt, heap, edging(heap)?)
 }
 
 fn by_needles(rt: &HostRuntime, heap: Global) -> anyhow::Result<()> {
     println!(rt; "by needles")?;
-    let judge = Swap::new(edging(heap)?);
-    show_run(rt, heap, |room, turns| {
-        run(judge, room, turns);
-    })
+    show_list(rt, heap, Swap::new(edging(heap)?))
 }
 
 fn within(rt: &HostRuntime, heap: Global, hours: u8, needles: u8) -> anyhow::Result<()> {
     println!(rt; "by hours, within {hours} quarter hours and {needles} needles")?;
-    let judge = Limit::new(edging(heap)?, hours, needles);
-    show_run(rt, heap, |room, turns| {
-        run(judge, room, turns);
-    })
+    show_list(rt, heap, Limit::new(edging(heap)?, hours, needles))
 }
 
 fn piled<J: Judge + Drop>(
