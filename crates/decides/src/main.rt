@@ -36,15 +36,14 @@ fn read_clauses<S: Solver>(input: &mut Input<'_>, solver: &mut S) -> Result<(), 
 // How many choices are taken in the held setting, and the sum of their numbers.
 fn taken_sum<S: Solver>(solver: &S) -> (u32, u32) {
     let (choices, _) = solver.size();
-    let mut count: u32 = 0;
-    let mut sum: u32 = 0;
-    for choice in 1..=choices {
-        if solver.taken(choice) == Ok(true) {
-            count = count.saturating_add(1);
-            sum = sum.saturating_add(u32::from(choice));
-        }
-    }
-    (count, sum)
+    (1..=choices)
+        .filter(|choice| solver.taken(*choice) == Ok(true))
+        .fold((0u32, 0u32), |(count, sum), choice| {
+            (
+                count.saturating_add(1),
+                sum.saturating_add(u32::from(choice)),
+            )
+        })
 }
 
 // The answer to the last of some questions.

@@ -1,41 +1,19 @@
 use crate::PlainMaker;
-use decode::decode;
-use job::{JobFault, Line, Stage, check_length, perform};
+use job::{Line, check_length};
 use plain::Room;
-use planner::ListRoom;
 use std::alloc::Global;
-use std::process::Abort;
 use std::test::Fail;
 
-// Looks at the lines of a job, without the end line.
-fn prints(rt: &impl Abort, heap: Global, job: &[u8], lines: &[&str]) -> Result<(), Fail> {
+fn prints(heap: Global, job: &[u8], lines: &[&str]) -> Result<(), Fail> {
     let maker = PlainMaker {
         room: Room::new(heap)?,
     };
-    let mut stage = Stage::Waiting(maker, ListRoom::new(heap)?);
-    let mut offset = 0;
-    for line in lines {
-        match decode(job, offset) {
-            None => return Err(Fail::new("the job is at its end")),
-            Some(Err(spoilt)) => {
-                let answer = Err(JobFault::from(spoilt));
-                assert_eq!(rt; Line { offset, answer }.to_string(heap)?.as_str(), *line);
-            }
-            Some(Ok((command, next))) => {
-                let (now, answer) = perform(stage, command);
-                stage = now;
-                assert_eq!(rt; Line { offset, answer }.to_string(heap)?.as_str(), *line);
-                offset = next;
-            }
-        }
-    }
-    Ok(())
+    job_checks::prints(heap, maker, job, lines)
 }
 
 #[test]
 fn order_is_kept(rt: HostRuntime) -> Result<(), Fail> {
     prints(
-        &rt,
         rt.alloc(),
         b"\x05\x02\x00\x00\x00\x00\x00\x00\x00\x00\x00\x01\x00\x04\x10\x00\x01\x02\x00\x10\x00\
           \x01\x02\x04\x02\x00\x01\x02\x04\x02\x00\x06",
@@ -54,7 +32,6 @@ fn order_is_kept(rt: HostRuntime) -> Result<(), Fail> {
 #[test]
 fn entries_are_refused_in_order(rt: HostRuntime) -> Result<(), Fail> {
     prints(
-        &rt,
         rt.alloc(),
         b"\x01\x02\x01\x05\x00\
           \x02\x09\x00\x00\x00\x00\x00\x00\x00\x00\
@@ -86,15 +63,13 @@ fn entries_are_refused_in_order(rt: HostRuntime) -> Result<(), Fail> {
 #[test]
 fn an_unknown_byte_stops_the_job(rt: HostRuntime) -> Result<(), Fail> {
     let heap = rt.alloc();
-    prints(&rt, heap, b"\x00", &["0 refused 2 job"])?;
+    prints(heap, b"\x00", &["0 refused 2 job"])?;
     prints(
-        &rt,
         heap,
         b"\x01\x02\x04\x10\x00\x08\x05",
         &["0 ok", "5 refused 2 job"],
     )?;
     prints(
-        &rt,
         heap,
         b"\x01\x02\x04\x10\x00\xff",
         &["0 ok", "5 refused 2 job"],
@@ -104,21 +79,19 @@ fn an_unknown_byte_stops_the_job(rt: HostRuntime) -> Result<(), Fail> {
 #[test]
 fn operands_that_are_cut_off_stop_the_job(rt: HostRuntime) -> Result<(), Fail> {
     let heap = rt.alloc();
-    prints(&rt, heap, b"\x01\x02\x04\x10", &["0 refused 3 job"])?;
+    prints(heap, b"\x01\x02\x04\x10", &["0 refused 3 job"])?;
     prints(
-        &rt,
         heap,
         b"\x02\x00\x00\x00\x00\x00\x00\x00\x00",
         &["0 refused 3 job"],
     )?;
     prints(
-        &rt,
         heap,
         b"\x06\x03\x01",
         &["0 refused 4 job", "1 refused 3 job"],
     )?;
-    prints(&rt, heap, b"\x04", &["0 refused 3 job"])?;
-    prints(&rt, heap, b"\x07", &["0 refused 3 job"])
+    prints(heap, b"\x04", &["0 refused 3 job"])?;
+    prints(heap, b"\x07", &["0 refused 3 job"])
 }
 
 #[test]

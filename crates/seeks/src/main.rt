@@ -16,9 +16,7 @@ use std::process::ExitCode;
 fn main(rt: HostRuntime) -> anyhow::Result<ExitCode> {
     let mut bytes = Vec::new(rt.alloc());
     rt.stdin().read_to_end(&mut bytes)?;
-    let mut input = Input {
-        rest: bytes.as_slice(),
-    };
+    let mut input = Input { rest: &bytes };
     let room = Room::new(rt.alloc())?;
     let Ok(sizes) = check_sizes(input.byte(), 64, 1024) else {
         return Ok(ExitCode::FAILURE);

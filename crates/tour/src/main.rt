@@ -4,30 +4,12 @@
 
 use anyhow::anyhow;
 use design::JudgeFault;
+use edging::{CHOICES, HOURS, NEEDLES, RULES};
 use judge::{Judge, check_sizes};
 use plain::{Plain, Room};
 use published::{find_plan, point_of};
 use scales::{Hours, Needles};
 use std::io;
-
-// What the choices of the edging are, by their numbers from 1.
-const CHOICES: [&str; 6] = [
-    "gimp outline",
-    "fine outline",
-    "picot edge",
-    "straight edge",
-    "net ground",
-    "pillar ground",
-];
-
-// One of two outlines, just one of two edges, a ground; and the gimp needs the net.
-const RULES: [&[i8]; 5] = [&[1, 2], &[3, 4], &[-3, -4], &[5, 6], &[-1, 5]];
-
-// What a mark costs: quarter hours of threading, and needles of shog. Leaving out the pillars, -6,
-// shogs the ground bars.
-const HOURS: [(i8, u8); 6] = [(1, 6), (2, 3), (3, 5), (4, 1), (5, 4), (6, 2)];
-
-const NEEDLES: [(i8, u8); 6] = [(1, 9), (2, 20), (3, 6), (4, 2), (5, 4), (-6, 3)];
 
 const BOUNDS: [(u8, u8); 6] = [(255, 255), (40, 19), (11, 9), (10, 9), (6, 24), (5, 24)];
 
@@ -84,21 +66,17 @@ fn seek_all<J: Judge>(rt: &HostRuntime, judge: &mut J) -> io::Result<()> {
 }
 
 fn show_choices(rt: &HostRuntime, word: u64) -> io::Result<()> {
-    let mut rest = word;
-    for name in CHOICES {
-        if rest & 1 == 1 {
+    for (at, name) in CHOICES.iter().enumerate() {
+        if word >> at & 1 == 1 {
             println!(rt; "  {name}")?;
         }
-        rest >>= 1;
     }
     Ok(())
 }
 
 fn main(rt: HostRuntime) -> anyhow::Result<()> {
     let room = Room::new(rt.alloc())?;
-    let Ok(sizes) = check_sizes(6, 6, 64) else {
-        return Err(anyhow!("the sizes are out of range"));
-    };
+    let sizes = check_sizes(6, 6, 64).map_err(|_| anyhow!("the sizes are out of range"))?;
     println!(rt; "a design of 6 choices")?;
     let mut judge: Plain<Hours, Needles> = Plain::new(room, sizes);
     enter_rules(&rt, &mut judge)?;

@@ -13,7 +13,6 @@ use judge::{Judge, Sizes, check_sizes};
 use plain::{Plain, Room};
 use scales::{Hours, Needles};
 use settling::BySettling;
-use solver::Solver;
 use std::io::Read;
 use stepping::ByStepping;
 use store::check_store;
@@ -25,21 +24,9 @@ fn run_on<J: Judge + Drop>(
     input: &mut Input<'_>,
     mut judge: J,
 ) -> anyhow::Result<()> {
-    if enter(input, &mut judge).is_err() {
-        return Err(anyhow!("a rule or a price is refused"));
-    }
+    enter(input, &mut judge).map_err(|_| anyhow!("a rule or a price is refused"))?;
     answer_seeks(rt, input, &mut judge)?;
     Ok(())
-}
-
-fn run_tree<S: Solver + Drop>(
-    rt: &HostRuntime,
-    input: &mut Input<'_>,
-    sizes: Sizes,
-    solver: S,
-) -> anyhow::Result<()> {
-    let tree: Tree<Hours, Needles, S> = Tree::new(Room::new(rt.alloc())?, sizes, solver);
-    run_on(rt, input, tree)
 }
 
 // The tree on a solver of a kind, with just the store that it needs.
@@ -53,24 +40,21 @@ fn run_kind<K: Search>(
     let length = numbers.saturating_add(usize::from(needed).saturating_mul(4));
     let mut memory = vec![in rt.alloc(); 0i16; length]?;
     let cells = memory.as_mut_slice();
-    let Ok(lent) = check_store(needed, numbers, cells) else {
-        return Err(anyhow!("the store is too small"));
-    };
-    let solver: Kind<K> = Kind::new(lent, cells);
-    run_tree(rt, input, sizes, solver)
+    let lent = check_store(needed, numbers, cells).map_err(|_| anyhow!("the store is too small"))?;
+    let solver: Kind<'_, K> = Kind::new(lent, cells);
+    let tree: Tree<Hours, Needles, Kind<'_, K>> = Tree::new(Room::new(rt.alloc())?, sizes, solver);
+    run_on(rt, input, tree)
 }
 
 fn main(rt: HostRuntime) -> anyhow::Result<()> {
     let mut bytes = Vec::new(rt.alloc());
     rt.stdin().read_to_end(&mut bytes)?;
-    let mut input = Input {
-        rest: bytes.as_slice(),
-    };
+    let mut input = Input { rest: &bytes };
     let judge = input.byte();
     let price_room = input.byte();
-    let Ok(sizes) = check_sizes(input.byte(), price_room, 1024) else {
-        return Err(anyhow!("N or Q is out of range"));
-    };
+    let sizes = check_sizes(input.byte(), price_room, 1024).map_err(|_| anyhow!(
+        "N or Q is out of range"
+    ))?;
     match judge {
         1 => run_kind::<ByStepping>(&rt, &mut input, sizes),
         2 => run_kind::<BySettling>(&rt, &mut input, sizes),
