@@ -110,9 +110,11 @@ fn step_through_sums<J: Judge>(rt: &impl Abort, watched: &mut Watched<J>) {
 // Each of eight choices costs its weight in A if it is made, and in B if it is not; the weights sum to
 // every number up to 200.
 fn weigh<J: Judge>(rt: &impl Abort, watched: &mut Watched<J>) -> Result<(), Fail> {
-    for (mark, place) in (1..=8i8).zip([1u8, 2, 4, 8, 16, 32, 64, 73]) {
+    let weights = [1u8, 2, 4, 8, 16, 32, 64, 73];
+    for (mark, place) in (1..=8i8).zip(weights) {
         watched.enter_price(rt, Cost::A, Price { mark, place })?;
-        let mark = mark.wrapping_neg();
+    }
+    for (mark, place) in (-8..=-1i8).rev().zip(weights) {
         watched.enter_price(rt, Cost::B, Price { mark, place })?;
     }
     Ok(())
