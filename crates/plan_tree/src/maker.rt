@@ -1,13 +1,15 @@
 ghost use Rattle.std.specs.Prelude.{◌≡◌, length};
+ghost use Rattle.store.specs.Checking.{Checked};
 ghost use Rattle.plan_tree.specs.Making.{set_up_fault};
 
-use design::JudgeFault;
+use design::{JudgeFault, SolverFault};
 use job::{Maker, Unmade};
 use judge::check_sizes;
 use plain::Room;
 use scales::{Hours, Needles};
 use settling::Settling;
 use solver::check_making;
+use store::Sizes;
 use tree::{Tree, choices_needed, room_needed};
 
 // What the tree is made of: memory for its rules and prices, and its solver's store. 29,696 numbers
@@ -17,6 +19,14 @@ pub struct TreeMaker<'a> {
     pub room: Room,
     pub cells: &'a mut [i16],
     ghost size: { length cells.now ≡ 29696 },
+}
+
+// Whether the store serves a solver of these sizes.
+fn check_lent(choices: u16, room: usize) -> Result<Sizes, SolverFault>
+    ensures { Checked choices room 29696 result }
+{
+    check_making(choices, room, 29696)?;
+    Ok(Sizes { choices, room })
 }
 
 impl<'a> Maker for TreeMaker<'a> {
@@ -37,13 +47,9 @@ impl<'a> Maker for TreeMaker<'a> {
         };
         let needed = choices_needed::<Hours, Needles>(sizes);
         let numbers = room_needed::<Hours, Needles>(sizes);
-        match check_making(needed, numbers, 29696) {
-            Ok(()) => {
+        match check_lent(needed, numbers) {
+            Ok(lent) => {
                 let TreeMaker { room, cells } = self;
-                let lent = store::Sizes {
-                    choices: needed,
-                    room: numbers,
-                };
                 Ok(Tree::new(room, sizes, Settling::new(lent, cells)))
             }
             Err(fault) => Err(Unmade {
