@@ -54,8 +54,11 @@ impl Draft {
         }
     }
 
+    // In its own arithmetic, which no judge uses.
     fn has_choice(&self, mark: i8) -> bool {
-        mark != 0 && mark.unsigned_abs() <= self.sizes.choices
+        let reach = i16::from(self.sizes.choices);
+        let at = i16::from(mark);
+        at != 0 && at <= reach && at >= reach.wrapping_neg()
     }
 
     // What the rules take: one unit each, and one more for each mark.

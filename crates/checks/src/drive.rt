@@ -1,7 +1,7 @@
 use crate::draft::{Cost, Draft};
 use crate::random::Random;
 use crate::sweep::Sweep;
-use design::{JudgeFault, Layer, Price};
+use design::{JudgeFault, Price};
 use judge::{Judge, Sizes};
 use plain::Plain;
 use scales::Scale;
@@ -61,7 +61,7 @@ impl<T: Drop> From<AllocFailed<T>> for Mismatch {
 pub fn refusal<T: Drop>(answer: Result<T, JudgeFault>) -> Result<Option<u8>, Mismatch> {
     match answer {
         Ok(_) => Ok(None),
-        Err(fault) if fault.layer() == Layer::Judge => Ok(Some(fault.number())),
+        Err(fault) if fault.layer().name() == "judge" => Ok(Some(fault.number())),
         Err(_) => Err(Mismatch::Layer),
     }
 }

@@ -1,6 +1,5 @@
 use checks::draft::Draft;
 use checks::sweep::Sweep;
-use design::Layer;
 use planner::PlannerFault;
 use scales::Scale;
 use std::alloc::AllocError;
@@ -21,7 +20,7 @@ impl From<PlannerFault> for Refusal {
         match fault {
             PlannerFault::ListingOpen => Refusal::ListingOpen,
             PlannerFault::NoEntry => Refusal::NoEntry,
-            PlannerFault::Judge(fault) if fault.layer() == Layer::Judge => {
+            PlannerFault::Judge(fault) if fault.layer().name() == "judge" => {
                 Refusal::Judge(fault.number())
             }
             PlannerFault::Judge(_) => Refusal::Stray,

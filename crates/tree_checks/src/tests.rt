@@ -3,7 +3,6 @@ use checks::drive::Trial;
 use checks::random::Random;
 use checks::sweep::Sweep;
 use deciding::{Kind, Search};
-use design::Layer;
 use judge::{Judge, Sizes, check_sizes};
 use layers::{Limit, Swap};
 use plain::Room;
@@ -123,10 +122,11 @@ fn stepping_agrees_with_the_sweep(rt: HostRuntime) -> Result<(), Fail> {
 }
 
 // The refusal of a tree's making, if any, on a solver of the given M and K.
-fn refused_by<S: Solver + Drop>(solver: S, sizes: (u8, u8, u16)) -> Option<(u8, Layer)> {
+fn refused_by<S: Solver + Drop>(solver: S, sizes: (u8, u8, u16)) -> Option<(u8, &'static str)> {
     let (choices, price_room, rule_room) = sizes;
     let made = check_tree::<Hours, Needles, S>(choices, price_room, rule_room, &solver);
-    made.err().map(|fault| (fault.number(), fault.layer()))
+    made.err()
+        .map(|fault| (fault.number(), fault.layer().name()))
 }
 
 // The published number is what the test holds.
@@ -136,7 +136,7 @@ fn expect_making(
     choices: u16,
     room: usize,
     sizes: (u8, u8, u16),
-    owed: Option<(u8, Layer)>,
+    owed: Option<(u8, &'static str)>,
 ) -> Result<(), Fail> {
     let mut memory = memory_of(heap, choices, room)?;
     let cells = memory.as_mut_slice();
@@ -150,45 +150,10 @@ fn expect_making(
 fn makings_have_edges(rt: HostRuntime) -> Result<(), Fail> {
     let heap = rt.alloc();
     expect_making(&rt, heap, 256, 28672, (64, 4, 1024), None)?;
-    expect_making(
-        &rt,
-        heap,
-        255,
-        28672,
-        (64, 4, 1024),
-        Some((7, Layer::Solver)),
-    )?;
-    expect_making(
-        &rt,
-        heap,
-        256,
-        28671,
-        (64, 4, 1024),
-        Some((7, Layer::Solver)),
-    )?;
-    expect_making(
-        &rt,
-        heap,
-        256,
-        28672,
-        (65, 4, 1024),
-        Some((5, Layer::Judge)),
-    )?;
-    expect_making(
-        &rt,
-        heap,
-        256,
-        28672,
-        (64, 65, 1024),
-        Some((6, Layer::Judge)),
-    )?;
-    expect_making(
-        &rt,
-        heap,
-        256,
-        28672,
-        (64, 5, 1024),
-        Some((7, Layer::Solver)),
-    )?;
+    expect_making(&rt, heap, 255, 28672, (64, 4, 1024), Some((7, "solver")))?;
+    expect_making(&rt, heap, 256, 28671, (64, 4, 1024), Some((7, "solver")))?;
+    expect_making(&rt, heap, 256, 28672, (65, 4, 1024), Some((5, "judge")))?;
+    expect_making(&rt, heap, 256, 28672, (64, 65, 1024), Some((6, "judge")))?;
+    expect_making(&rt, heap, 256, 28672, (64, 5, 1024), Some((7, "solver")))?;
     expect_making(&rt, heap, 64, 1024, (64, 1, 1024), None)
 }
