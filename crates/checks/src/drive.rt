@@ -57,7 +57,8 @@ impl<T: Drop> From<AllocFailed<T>> for Mismatch {
     }
 }
 
-// The number of a refusal, which is of the judge's layer.
+// The number of a refusal, which is of the judge's layer. The number is what is promised to the
+// outside; the enum here would be held against itself.
 pub fn refusal<T: Drop>(answer: Result<T, JudgeFault>) -> Result<Option<u8>, Mismatch> {
     match answer {
         Ok(_) => Ok(None),

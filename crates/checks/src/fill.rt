@@ -6,7 +6,8 @@ use design::Price;
 use judge::Judge;
 use std::alloc::AllocError;
 
-// How many marks a rule has: mostly 2 or 3, rarely none.
+// How many marks a rule has: mostly 2 or 3, rarely none. The planner's tests draw by another table,
+// with rules of too many marks.
 fn draw_length(random: &mut Random) -> u8 {
     match random.below(200) {
         0 => 0,

@@ -1,4 +1,4 @@
--- What a tree asks of its solver, and what it learns.
+-- What a tree asks of its solver, and what follows from the answers.
 use Rattle.std.specs.Prelude.{ℕ, ◌^◌, ◌<◌, ◌≤◌, Bool, true, false}
 use Rattle.design.specs.Plan.{Scales, Meaning, Within}
 use Rattle.solver.specs.State.{Solving}

@@ -22,7 +22,8 @@ fn draw_limit<S: Scale>(random: &mut Random) -> u8 {
     }
 }
 
-// Steps through the points of a list and to its end.
+// Steps through the points of a list and to its end. It stands here, since `checks` is below the
+// planner.
 fn expect_points<J: Judge + Drop>(
     rt: &impl Abort,
     heap: Global,

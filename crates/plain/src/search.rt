@@ -9,7 +9,8 @@ use propagation::{Partial, ease, split, sweep};
 use scales::Scale;
 
 impl<A: Scale, B: Scale> Plain<A, B> {
-    // Rules and bounds applied until nothing more follows; nothing where one cannot be kept.
+    // Rules and bounds applied until nothing more follows; nothing where one cannot be kept. It is a
+    // `loop`, since it counts nothing.
     fn settle(&self, a: u8, b: u8, at: Partial) -> Option<Partial>
         ensures { Settled (query (pair_of A.Scale.places B.Scale.places) self.now a b) at result }
     {

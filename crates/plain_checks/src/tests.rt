@@ -57,7 +57,7 @@ fn planted_designs<A: Scale, B: Scale>(heap: Global, seed: u64, count: u8) -> Re
     Ok(())
 }
 
-// Small rooms and wild entries: every answer is the one owed, and a refusal changes nothing.
+// Small rooms, and entries of any marks and places: every answer is the one owed, and a refusal changes nothing.
 fn provoked_designs<A: Scale, B: Scale>(heap: Global, seed: u64, count: u8) -> Result<(), Fail> {
     let mut random = Random::new(seed);
     for _ in 0..count {

@@ -8,7 +8,8 @@ use judge::Judge;
 use std::process::Abort;
 use std::test::Fail;
 
-// How many marks a rule has: mostly 2 or 3, rarely none, or too many.
+// How many marks a rule has: mostly 2 or 3, rarely none, or too many. The judges' tests draw by
+// another table, where each rule is within its limit.
 fn draw_length(random: &mut Random) -> u8 {
     match random.below(200) {
         0 => 0,

@@ -11,6 +11,7 @@ use std::marker::PhantomData;
 
 // The prices of one cost of scale S, in order of entry, and beside them what the search asks of
 // them: the price of taking and of leaving each choice (0 for none), and the choices that have one.
+// `taking` and `leaving` are two arrays, since each is looked along by a word of its own.
 #[derive(Drop)]
 pub struct PriceList<S> {
     pub(crate) sizes: Sizes,

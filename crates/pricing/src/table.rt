@@ -1,4 +1,4 @@
-ghost use Rattle.std.specs.Prelude.{◌≡◌, ℕ, ◌<◌, ◌≤◌, [], OnOk, vec_capacity};
+ghost use Rattle.std.specs.Prelude.{◌≡◌, ℕ, ◌<◌, ◌≤◌, [], OnOk, vec_len, vec_capacity};
 ghost use Rattle.design.specs.Fault.{refused_or};
 ghost use Rattle.judge.specs.Calls.{price_fault, price_of};
 ghost use Rattle.propagation.specs.Masks.{ups_of, downs_of};
@@ -46,7 +46,7 @@ impl<S> PriceList<S> {
     // A price that was checked, in memory that is there already: this cannot fail.
     pub fn append(&mut self, mark: i8, place: u8)
         requires fresh { Fresh self.old mark }
-        requires memory { 64 ≤ vec_capacity self.old.entries }
+        requires memory { vec_len self.old.entries < vec_capacity self.old.entries }
         ensures { Longer self.old (price_of mark place) self.new }
     {
         let k = choice_bit(mark) as usize;

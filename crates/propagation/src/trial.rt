@@ -66,9 +66,9 @@ fn heaviest(weights: &[Weight; 64], among: u64) -> u32
     best
 }
 
-// A trial: some open choice with one value, and the same with the other. Which choice and which
-// value comes first is a rule of thumb: the choice that the shortest open rules name most, first
-// with the value that meets more of them.
+// A trial: some open choice with one value, and the same with the other. First comes
+// the choice that the shortest open rules name most, with the value that meets more of them; the
+// contract leaves that free, and the time of the search hangs on it.
 pub fn split(rules: &[Rule], at: Partial) -> (Partial, Partial)
     requires { 0 < bit_and at.up at.down }
     ensures { Halves at result.0 result.1 }

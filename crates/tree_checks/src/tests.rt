@@ -18,7 +18,8 @@ use store::check_store;
 use test_scales::Skips;
 use tree::{Tree, check_tree, choices_needed, room_needed};
 
-// Steps through the points that no plan beats, and to the end of the list.
+// Steps through the points that no plan beats, and to the end of the list. It stands here, since
+// `checks` is below the planner.
 fn expect_front<J: Judge + Drop>(rt: &impl Abort, trial: Trial<J>) -> Result<(), Fail> {
     let Trial { judge, draft } = trial;
     let front = Sweep::of::<J::CostA, J::CostB>(&draft)?.front(draft.heap)?;

@@ -66,8 +66,7 @@ impl<'a, C: Scale> Heap<'a, C> {
 
     // The extra choice "the node costs at least this place".
     pub fn number(&self, node: usize, place: u8) -> u16
-        requires inner { Inner (length self.now.prices.now) node }
-        requires place { place ≤ C.Scale.places.top }
+        requires { (1 ≤ node) × ((node < 128) × (number self.now.base C.Scale.places.top node place < 2 ^ 15)) }
         ensures is { result ≡ number self.now.base C.Scale.places.top node place }
         ensures small { result < 2 ^ 15 }
     {

@@ -1,6 +1,7 @@
-use Rattle.std.proofs.Common.{refl, sym, ap, ◌∙◌, subst, arith}
+use Rattle.std.proofs.Common.{length, refl, sym, ap, ◌∙◌, subst, arith}
 use Rattle.scales.proofs.ByPlaces.{place_laws}
 use Rattle.solver.specs.State.{with_clauses}
+use Rattle.totalizer.proofs.Sizes.{number_last}
 use Rattle.writer.specs.Writes.{Takes}
 use Rattle.writer.proofs.Parts.{pair_nothing, pair_joins, wrote_none}
 use Rattle.writer.proofs.heap.Heap.write_pair.Goals as goal
@@ -9,7 +10,8 @@ pub number-joined-requires : goal.number-joined-requires
 number-joined-requires g c =
     let s = g.C.Scale in
     let w = (place_laws s.places s.place s.at s.joined s.laws).under c.args.left c.args.right in
-    record { inner = c.requires.inner; place = omega (arith, w) }
+    let h = c.args.self.now in
+    omega (arith, w, h.small.few, h.small.numbers, c.requires.inner.first, c.requires.inner.last, number_last h.base s.places.top (length h.prices.now) c.args.node c.join_places.result)
 
 pub write_joining-requires : goal.write_joining-requires
 write_joining-requires g c =
