@@ -1,13 +1,19 @@
 // A job against the lines that it should print, for any way to make a judge.
 #![tactic(auto)]
 
+ghost use Rattle.std.specs.Prelude.{◌≡◌, OnOk};
+ghost use Rattle.job.specs.Lines.{line_text};
+
 use decode::decode;
 use job::{JobFault, Line, Maker, Stage, perform};
 use planner::ListRoom;
 use std::alloc::Global;
 use std::test::Fail;
 
-fn is_line(heap: Global, line: Line, wanted: &str) -> Result<(), Fail> {
+// Whether a line is printed as this text.
+pub fn is_line(heap: Global, line: Line, wanted: &str) -> Result<(), Fail>
+    ensures { OnOk result (line_text line ≡ wanted.now) }
+{
     let text = line.to_string(heap)?;
     if text.as_str() == wanted {
         Ok(())
