@@ -1,3 +1,5 @@
+ghost use Rattle.std.specs.Prelude.{◌<◌, ◌≤◌};
+
 // Numbers that look random and are the same in every run (xorshift64*).
 #[derive(Drop)]
 pub struct Random {
@@ -21,7 +23,9 @@ impl Random {
     }
 
     // A number below n, or 0 where n is 0.
-    pub fn below(&mut self, n: u8) -> u8 {
+    pub fn below(&mut self, n: u8) -> u8
+        ensures { 0 < n → result < n }
+    {
         let drawn = (self.word() >> 33) % u64::from(n.max(1));
         u8::try_from(drawn).unwrap_or(0)
     }
@@ -43,7 +47,9 @@ impl Random {
     }
 
     // A place from 1 to the top, more often a low one.
-    pub fn place(&mut self, top: u8) -> u8 {
+    pub fn place(&mut self, top: u8) -> u8
+        ensures { 1 ≤ result }
+    {
         if self.once_in(2) {
             self.below(top).saturating_add(1)
         } else {
