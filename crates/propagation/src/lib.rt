@@ -13,7 +13,6 @@ ghost use Rattle.propagation.specs.Held.{marks_of};
 ghost use Rattle.propagation.specs.Narrowing.{Applied, Swept, SureMark};
 ghost use Rattle.propagation.specs.Easing.{Asked, Eased};
 
-use arrayvec::ArrayVec;
 use bits::{highest_bit, without};
 pub use partial::Partial;
 pub use rule::Rule;
@@ -26,13 +25,17 @@ impl Rule {
         requires named { all_are_named 64 marks.now ≡ true }
         ensures { marks_of result ≡ marks.now }
     {
-        let mut held = ArrayVec::new();
+        let mut held = [0i8; 8];
         let mut sides = Sides::none();
-        for mark in marks {
-            held.push(*mark);
+        for (i, mark) in marks.iter().enumerate() {
+            held[i] = *mark;
             sides = sides.with(Sides::of(*mark));
         }
-        Rule { marks: held, sides }
+        Rule {
+            count: marks.len() as u8,
+            marks: held,
+            sides,
+        }
     }
 
     // The marks as they were entered.
@@ -40,7 +43,7 @@ impl Rule {
         ensures marks { result.now ≡ marks_of self.now }
         ensures short { length result.now ≤ 8 }
     {
-        self.marks.as_slice()
+        &self.marks[..usize::from(self.count)]
     }
 
     // Whether a mark of the rule is true whatever the open choices are.
