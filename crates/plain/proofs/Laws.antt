@@ -7,4 +7,4 @@ use Rattle.plain.specs.Asked.{query}
 use Rattle.plain.proofs.Searching.{Sound}
 
 pub sound : {X Y : Type 0} (s : Scales) (j : Plain X Y) (a b : ℕ) → PlaceLaws s.a → PlaceLaws s.b → Sound (query s j a b)
-sound s j a b la lb = record { laws_a = la; laws_b = lb; named_a = j.prices_a.named; named_b = j.prices_b.named }
+sound s j a b la lb = record { laws_a = la; laws_b = lb; named_a = j.prices_a.list.named; named_b = j.prices_b.list.named }

@@ -8,8 +8,8 @@ abbrev pub query : {X Y : Type 0} → Scales → Plain X Y → ℕ → ℕ → Q
 query s j a b = record {
   scales = s;
   rules = vec_items j.rules;
-  prices_a = vec_items j.prices_a.entries;
-  prices_b = vec_items j.prices_b.entries;
+  prices_a = vec_items j.prices_a.list.entries;
+  prices_b = vec_items j.prices_b.list.entries;
   bound_a = a;
   bound_b = b;
 }

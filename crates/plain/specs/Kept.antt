@@ -14,9 +14,9 @@ table_of s j = record {
   some_rules = j.sizes.some_rules;
   few_rules = j.sizes.few_rules;
   kept_rules = j.kept_rules;
-  kept_a = ap (λ (z : Sizes). prices_kept z.choices j.prices_a.entries.items) (sym j.a_sizes) ∙ j.prices_a.kept;
-  kept_b = ap (λ (z : Sizes). prices_kept z.choices j.prices_b.entries.items) (sym j.b_sizes) ∙ j.prices_b.kept;
+  kept_a = ap (λ (z : Sizes). prices_kept z.choices j.prices_a.list.entries.items) (sym j.a_sizes) ∙ j.prices_a.kept;
+  kept_b = ap (λ (z : Sizes). prices_kept z.choices j.prices_b.list.entries.items) (sym j.b_sizes) ∙ j.prices_b.kept;
   rules_fit = omega (arith, j.units, j.rules_fit);
-  a_fits = omega (arith, j.prices_a.entries.ok.0, j.prices_a.fits, ap (λ (z : Sizes). z.price_room) j.a_sizes);
-  b_fits = omega (arith, j.prices_b.entries.ok.0, j.prices_b.fits, ap (λ (z : Sizes). z.price_room) j.b_sizes);
+  a_fits = omega (arith, j.prices_a.list.entries.ok.0, j.prices_a.fits, ap (λ (z : Sizes). z.price_room) j.a_sizes);
+  b_fits = omega (arith, j.prices_b.list.entries.ok.0, j.prices_b.fits, ap (λ (z : Sizes). z.price_room) j.b_sizes);
 }

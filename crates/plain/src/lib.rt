@@ -13,7 +13,7 @@ ghost use Rattle.plain.specs.Kept.{table_of};
 use bits::lowest;
 use design::{JudgeFault, Price};
 use judge::{Judge, Sizes, check_rule};
-use pricing::PriceList;
+use pricing::PriceTable;
 use propagation::{Partial, Rule};
 use scales::Scale;
 pub use state::{Plain, Room};
@@ -48,8 +48,8 @@ impl<A: Scale, B: Scale> Plain<A, B> {
             sizes,
             rules,
             used: 0,
-            prices_a: PriceList::new(sizes, prices_a),
-            prices_b: PriceList::new(sizes, prices_b),
+            prices_a: PriceTable::new(sizes, prices_a),
+            prices_b: PriceTable::new(sizes, prices_b),
         }
     }
 }
@@ -69,13 +69,13 @@ impl<A, B> Plain<A, B> {
     }
 
     pub fn prices_a(&self) -> &[Price]
-        ensures { result.now ≡ self.now.prices_a.entries.items }
+        ensures { result.now ≡ self.now.prices_a.list.entries.items }
     {
         self.prices_a.as_slice()
     }
 
     pub fn prices_b(&self) -> &[Price]
-        ensures { result.now ≡ self.now.prices_b.entries.items }
+        ensures { result.now ≡ self.now.prices_b.list.entries.items }
     {
         self.prices_b.as_slice()
     }

@@ -5,7 +5,7 @@ ghost use Rattle.propagation.specs.Held.{rules_of};
 
 use design::Price;
 use judge::Sizes;
-use pricing::PriceList;
+use pricing::PriceTable;
 use propagation::Rule;
 
 // The memory of a plain judge of any sizes, had before its making.
@@ -29,14 +29,14 @@ pub struct Plain<A, B> {
     pub(crate) rules: Vec<Rule>,
     // the units of R that the rules take
     pub(crate) used: u16,
-    pub(crate) prices_a: PriceList<A>,
-    pub(crate) prices_b: PriceList<B>,
+    pub(crate) prices_a: PriceTable<A>,
+    pub(crate) prices_b: PriceTable<B>,
     ghost units: { used ≡ units_used (rules_of rules.items) },
     ghost rules_fit: { used ≤ sizes.rule_room },
     ghost a_sizes: { prices_a.sizes ≡ sizes },
     ghost b_sizes: { prices_b.sizes ≡ sizes },
     ghost kept_rules: { rules_kept sizes.choices (rules_of rules.items) ≡ true },
     ghost rule_memory: { 1024 ≤ vec_capacity rules },
-    ghost a_memory: { 64 ≤ vec_capacity prices_a.entries },
-    ghost b_memory: { 64 ≤ vec_capacity prices_b.entries },
+    ghost a_memory: { 64 ≤ vec_capacity prices_a.list.entries },
+    ghost b_memory: { 64 ≤ vec_capacity prices_b.list.entries },
 }

@@ -1,4 +1,4 @@
--- A price more: what a check let pass keeps the list as it has to be.
+-- A price more: what a check let pass keeps the table as it has to be.
 use Rattle.std.proofs.Common.{◌≡◌, ℕ, ◌<◌, true, false, List, [], ◌∷◌, ◌++◌, length, ℤ, Ok, Err, OnOk, Result, vec_items, sym, refl, ap, ◌∙◌, inl, inr}
 use Rattle.std.proofs.lemmas.Bool.{not_from_false, not-true, or_parts, or_from}
 use Rattle.std.proofs.lemmas.Bool.Decides.{nat_tests}
@@ -12,14 +12,14 @@ use Rattle.design.specs.Fault.{refused_or}
 use Rattle.design.proofs.Truth.{never, tell, both, left_of, right_of}
 use Rattle.design.proofs.OfPrices.{same_true, same_from, priced_more}
 use Rattle.judge.specs.Calls.{price_fault}
-use Rattle.pricing.specs.declared.list.PriceList.{PriceList}
+use Rattle.pricing.specs.declared.price_table.PriceTable.{PriceTable}
 use Rattle.pricing.specs.Entries.{Fresh}
 
--- a price that is not refused is one that the list can take
-pub passes : {S : Type 0} (l : PriceList S) (top : ℕ) (m : ℤ) (p : ℕ) (r : Result (Unit {0}) JudgeFault)
-    → r ≡ refused_or (price_fault l.sizes.choices l.sizes.price_room top (vec_items l.entries) m p) tt → OnOk r (Fresh l m)
+-- a price that is not refused is one that the table can take
+pub passes : {S : Type 0} (l : PriceTable S) (top : ℕ) (m : ℤ) (p : ℕ) (r : Result (Unit {0}) JudgeFault)
+    → r ≡ refused_or (price_fault l.sizes.choices l.sizes.price_room top (vec_items l.list.entries) m p) tt → OnOk r (Fresh l m)
 passes l top m p (Err f) e = tt
-passes l top m p (Ok u) e = let f = fresh (vec_items l.entries) e in record { names = f.0; first = f.1; fits = f.2 }
+passes l top m p (Ok u) e = let f = fresh (vec_items l.list.entries) e in record { names = f.0; first = f.1; fits = f.2 }
   where
     fresh : (ps : List Price) → ◌≡◌ {A = Result (Unit {0}) JudgeFault} (Ok tt) (refused_or (price_fault l.sizes.choices l.sizes.price_room top ps m p) tt)
         → (named l.sizes.choices m ≡ true) × (priced ps m ≡ false) × (length ps < l.sizes.price_room)

@@ -42,9 +42,9 @@ fn least_at(table: &[u8; 64], word: u64, start: u8) -> u8
     least
 }
 
-impl<S: Scale> PriceList<S> {
+impl PriceList {
     // What the sure marks cost.
-    fn sure_cost(&self, at: Partial) -> u8
+    fn sure_cost<S: Scale>(&self, at: Partial) -> u8
         ensures { result ≡ sure_total S.Scale.places self.now.entries.items at }
     {
         let mut sum = S::nothing();
@@ -57,23 +57,23 @@ impl<S: Scale> PriceList<S> {
     }
 
     // The cost of a word.
-    pub fn cost(&self, word: u64) -> u8
+    pub fn cost<S: Scale>(&self, word: u64) -> u8
         ensures { result ≡ cost S.Scale.places self.now.entries.items word }
     {
-        self.sure_cost(Partial {
+        self.sure_cost::<S>(Partial {
             up: word,
             down: word ^ u64::MAX,
         })
     }
 
     // Excludes the marks that would break a bound; nothing where the sure marks break it.
-    pub fn within(&self, bound: u8, at: Partial) -> Option<Partial>
+    pub fn within<S: Scale>(&self, bound: u8, at: Partial) -> Option<Partial>
         ensures { Bounded S.Scale.places self.now.entries.items bound at result }
     {
         if bound >= S::TOP {
             return Some(at);
         }
-        let sum = self.sure_cost(at);
+        let sum = self.sure_cost::<S>(at);
         if sum > bound {
             return None;
         }
@@ -96,10 +96,10 @@ impl<S: Scale> PriceList<S> {
 
     // What every setting that agrees and meets the rules costs at least: the sure marks, joined with
     // the cheapest mark of rules that share no choice.
-    pub fn least(&self, rules: &[Rule], at: Partial) -> u8
+    pub fn least<S: Scale>(&self, rules: &[Rule], at: Partial) -> u8
         ensures { Least S.Scale.places rules.now self.now.entries.items at result }
     {
-        let mut sum = self.sure_cost(at);
+        let mut sum = self.sure_cost::<S>(at);
         let mut seen = (at.up & at.down) ^ u64::MAX;
         for rule in rules {
             let open = rule.sides.possible(at);

@@ -3,7 +3,10 @@
 #![tactic(auto)]
 
 mod bound;
+mod entry;
 mod list;
+mod price_table;
 mod table;
 
 pub use list::PriceList;
+pub use price_table::PriceTable;

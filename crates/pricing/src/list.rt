@@ -1,27 +1,20 @@
-ghost use Rattle.std.specs.Prelude.{◌≡◌, ◌≤◌, true, vec_len};
+ghost use Rattle.std.specs.Prelude.{◌≡◌, true};
 ghost use Rattle.design.specs.Mark.{all_are_named};
-ghost use Rattle.design.specs.Plan.{prices_kept};
 ghost use Rattle.propagation.specs.Masks.{ups_of, downs_of};
 ghost use Rattle.pricing.specs.Tables.{marks_in, take_mark, leave_mark, Tabled};
 
 use design::Price;
-use judge::Sizes;
 use propagation::Sides;
-use std::marker::PhantomData;
 
-// The prices of one cost of scale S, in order of entry, and beside them what the search asks of
-// them: the price of taking and of leaving each choice (0 for none), and the choices that have one.
+// The prices of one cost, in order of entry, and beside them what the search asks of them: the price
+// of taking and of leaving each choice (0 for none), and the choices that have one.
 // `taking` and `leaving` are two arrays, since each is looked along by a word of its own.
 #[derive(Drop)]
-pub struct PriceList<S> {
-    pub(crate) sizes: Sizes,
+pub struct PriceList {
     pub(crate) entries: Vec<Price>,
     pub(crate) taking: [u8; 64],
     pub(crate) leaving: [u8; 64],
     pub(crate) sides: Sides,
-    pub(crate) scale: PhantomData<S>,
-    ghost fits: { vec_len entries ≤ sizes.price_room },
-    ghost kept: { prices_kept sizes.choices entries.items ≡ true },
     ghost named: { all_are_named 64 (marks_in entries.items) ≡ true },
     ghost take_table: { Tabled take_mark taking entries.items },
     ghost leave_table: { Tabled leave_mark leaving entries.items },
@@ -29,7 +22,7 @@ pub struct PriceList<S> {
     ghost down_word: { sides.downs ≡ downs_of (marks_in entries.items) },
 }
 
-impl<S> PriceList<S> {
+impl PriceList {
     // The choices that cost something to take, and those that cost something to leave.
     pub fn priced_choices(&self) -> Sides
         ensures { result ≡ record { ups = ups_of (marks_in self.now.entries.items); downs = downs_of (marks_in self.now.entries.items) } }

@@ -1,16 +1,11 @@
-ghost use Rattle.std.specs.Prelude.{◌≡◌, ℕ, ◌<◌, ◌≤◌, [], OnOk, vec_len, vec_capacity};
-ghost use Rattle.design.specs.Fault.{refused_or};
-ghost use Rattle.judge.specs.Calls.{price_fault, price_of};
+ghost use Rattle.std.specs.Prelude.{◌≡◌, ℕ, ◌<◌, ◌≤◌, true, [], ◌∷◌, ◌++◌, vec_len, vec_capacity};
+ghost use Rattle.design.specs.Mark.{named};
 ghost use Rattle.propagation.specs.Masks.{ups_of, downs_of};
 ghost use Rattle.pricing.specs.Tables.{marks_in, take_side, leave_side};
-ghost use Rattle.pricing.specs.Entries.{Fresh, Longer};
 
 use crate::list::PriceList;
-use design::{JudgeFault, Price, choice_bit};
-use judge::{Sizes, check_price};
+use design::{Price, choice_bit};
 use propagation::Sides;
-use scales::Scale;
-use std::marker::PhantomData;
 
 // A price as one of taking a choice and one of leaving it.
 fn sides(mark: i8, place: u8) -> (u8, u8)
@@ -19,20 +14,17 @@ fn sides(mark: i8, place: u8) -> (u8, u8)
     if mark >= 0 { (place, 0) } else { (0, place) }
 }
 
-impl<S> PriceList<S> {
+impl PriceList {
     // No prices, in the memory that is handed in.
-    pub fn new(sizes: Sizes, entries: Vec<Price>) -> PriceList<S>
+    pub fn new(entries: Vec<Price>) -> PriceList
         requires { entries.items ≡ [] }
-        ensures sizes { result.sizes ≡ sizes }
-        ensures entries { result.entries ≡ entries }
+        ensures { result.entries ≡ entries }
     {
         PriceList {
-            sizes,
             entries,
             taking: [0; 64],
             leaving: [0; 64],
             sides: Sides::none(),
-            scale: PhantomData,
         }
     }
 
@@ -43,11 +35,12 @@ impl<S> PriceList<S> {
         self.entries.as_slice()
     }
 
-    // A price that was checked, in memory that is there already: this cannot fail.
-    pub fn append(&mut self, mark: i8, place: u8)
-        requires fresh { Fresh self.old mark }
-        requires memory { vec_len self.old.entries < vec_capacity self.old.entries }
-        ensures { Longer self.old (price_of mark place) self.new }
+    // One price more, in memory that is there already.
+    pub fn push(&mut self, mark: i8, place: u8)
+        requires named { named 64 mark ≡ true }
+        requires room { vec_len self.old.entries < vec_capacity self.old.entries }
+        ensures items { self.new.entries.items ≡ self.old.entries.items ++ record { mark = mark; place = place } ∷ [] }
+        ensures room { vec_capacity self.old.entries ≤ vec_capacity self.new.entries }
     {
         let k = choice_bit(mark) as usize;
         let (take, leave) = sides(mark, place);
@@ -55,15 +48,5 @@ impl<S> PriceList<S> {
         self.leaving[k] = self.leaving[k].max(leave);
         self.sides = self.sides.with(Sides::of(mark));
         self.entries.push_reserved(Price { mark, place });
-    }
-}
-
-impl<S: Scale> PriceList<S> {
-    // Whether a price is refused.
-    pub fn check(&self, mark: i8, place: u8) -> Result<(), JudgeFault>
-        ensures answer { result ≡ refused_or (price_fault self.now.sizes.choices self.now.sizes.price_room S.Scale.places.top self.now.entries.items mark place) tt }
-        ensures fresh { OnOk result (Fresh self.now mark) }
-    {
-        check_price(self.sizes, S::TOP, self.as_slice(), mark, place)
     }
 }

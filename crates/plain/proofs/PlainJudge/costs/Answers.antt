@@ -11,6 +11,6 @@ returns g c =
     let j = c.args.self.now in
     let e : bit_and c.args.word c.lowest.result ≡ c.args.word % 2 ^ j.sizes.choices = ap (bit_and c.args.word) c.lowest.ensures ∙ and_mask c.args.word j.sizes.choices in
     record {
-      first = let h = ap (cost g.A.Scale.places (vec_items j.prices_a.entries)) e in cc;
-      second = let h = ap (cost g.B.Scale.places (vec_items j.prices_b.entries)) e in cc;
+      first = let h = ap (cost g.A.Scale.places (vec_items j.prices_a.list.entries)) e in cc;
+      second = let h = ap (cost g.B.Scale.places (vec_items j.prices_b.list.entries)) e in cc;
     }

@@ -9,8 +9,8 @@ pub returns-in_err-check-clause-answer : goal.returns-in_err-check-clause-answer
 unfolding price_b_answer
 returns-in_err-check-clause-answer g c =
     let p = err_from_is_err_and c.from_residual.result c.from_residual.ensures.1 in
-    rw (p.1, p.2) (c.in_err-check.ensures.answer ∙ sized c.args.self.now.b_sizes (to_z-of_z w8 c.args.mark c.ranges.mark) g.B.Scale.places.top (vec_items c.args.self.now.prices_b.entries) c.args.place)
+    rw (p.1, p.2) (c.in_err-check.ensures.answer ∙ sized c.args.self.now.b_sizes (to_z-of_z w8 c.args.mark c.ranges.mark) g.B.Scale.places.top (vec_items c.args.self.now.prices_b.list.entries) c.args.place)
 
 pub returns-clause-answer : goal.returns-clause-answer
 unfolding price_b_answer
-returns-clause-answer g c = c.in_ok-check.ensures.answer ∙ sized c.args.self.now.b_sizes (to_z-of_z w8 c.args.mark c.ranges.mark) g.B.Scale.places.top (vec_items c.args.self.now.prices_b.entries) c.args.place
+returns-clause-answer g c = c.in_ok-check.ensures.answer ∙ sized c.args.self.now.b_sizes (to_z-of_z w8 c.args.mark c.ranges.mark) g.B.Scale.places.top (vec_items c.args.self.now.prices_b.list.entries) c.args.place

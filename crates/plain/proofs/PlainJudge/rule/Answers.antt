@@ -66,8 +66,8 @@ returns g c =
         price_room = j.sizes.price_room;
         rule_room = j.sizes.rule_room;
         rules = x;
-        prices_a = vec_items j.prices_a.entries;
-        prices_b = vec_items j.prices_b.entries;
+        prices_a = vec_items j.prices_a.list.entries;
+        prices_b = vec_items j.prices_b.list.entries;
         limit_a = s.a.top;
         limit_b = s.b.top;
       }) e;

@@ -26,6 +26,6 @@ returns g c =
     let rs = no_rules_of (vec_items r.rules) r.no_rules in
     let a = ap vec_items c.new.ensures.entries ∙ r.no_a in
     let b = ap vec_items c.new-2.ensures.entries ∙ r.no_b in
-    ap (λ (x : List (List ℤ)). record { choices = n.choices; price_room = n.price_room; rule_room = n.rule_room; rules = x; prices_a = vec_items c.new.result.entries; prices_b = vec_items c.new-2.result.entries; limit_a = s.a.top; limit_b = s.b.top }) rs
-    ∙ ap (λ (x : List Price). record { choices = n.choices; price_room = n.price_room; rule_room = n.rule_room; rules = []; prices_a = x; prices_b = vec_items c.new-2.result.entries; limit_a = s.a.top; limit_b = s.b.top }) a
+    ap (λ (x : List (List ℤ)). record { choices = n.choices; price_room = n.price_room; rule_room = n.rule_room; rules = x; prices_a = vec_items c.new.result.list.entries; prices_b = vec_items c.new-2.result.list.entries; limit_a = s.a.top; limit_b = s.b.top }) rs
+    ∙ ap (λ (x : List Price). record { choices = n.choices; price_room = n.price_room; rule_room = n.rule_room; rules = []; prices_a = x; prices_b = vec_items c.new-2.result.list.entries; limit_a = s.a.top; limit_b = s.b.top }) a
     ∙ ap (λ (x : List Price). record { choices = n.choices; price_room = n.price_room; rule_room = n.rule_room; rules = []; prices_a = []; prices_b = x; limit_a = s.a.top; limit_b = s.b.top }) b

@@ -1,21 +1,17 @@
-use Rattle.std.proofs.Common.{◌≡◌, List, length, vec_items, vec_len, sym, ap, ◌∙◌, arith}
+use Rattle.std.proofs.Common.{List, sym, ap, ◌∙◌}
 use Rattle.design.specs.declared.price.Price.{Price}
 use Rattle.design.specs.Mark.{all_are_named}
 use Rattle.propagation.specs.declared.sides.Sides.{Sides}
 use Rattle.propagation.specs.Masks.{ups_of, downs_of, ups_from, downs_from}
 use Rattle.pricing.specs.Tables.{marks_in, price_at, take_mark, leave_mark}
-use Rattle.pricing.proofs.Entering.{no_prices}
 use Rattle.pricing.proofs.Tabling.{zero_table}
 use Rattle.pricing.proofs.list.PriceList.new.Goals as goal
 
 pub invariant_of-result : goal.invariant_of-result
 unfolding all_are_named marks_in price_at ups_of downs_of ups_from downs_from
-invariant_of-result g c =
+invariant_of-result c =
     let e = c.requires in
-    let v : vec_len c.args.entries ≡ length (vec_items c.args.entries) = c.args.entries.ok.0 in
     record {
-      fits = omega (arith, v, ap length e);
-      kept = no_prices c.args.sizes.choices (vec_items c.args.entries) e;
       named = ap (λ (ps : List Price). all_are_named 64 (marks_in ps)) e;
       take_table = λ k i. zero_table k ∙ sym (ap (λ (ps : List Price). price_at ps (take_mark k)) e);
       leave_table = λ k i. zero_table k ∙ sym (ap (λ (ps : List Price). price_at ps (leave_mark k)) e);

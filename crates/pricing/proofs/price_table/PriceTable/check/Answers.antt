@@ -1,7 +1,7 @@
 use Rattle.std.proofs.Common.{◌∙◌, w8}
 use Rattle.std.proofs.lemmas.Int.{to_z-of_z}
 use Rattle.pricing.proofs.Entering.{same_answer, passes}
-use Rattle.pricing.proofs.list.PriceList.check.Goals as goal
+use Rattle.pricing.proofs.price_table.PriceTable.check.Goals as goal
 
 pub returns : goal.returns
 returns g c =

@@ -1,17 +1,15 @@
-use Rattle.std.proofs.Common.{◌≡◌, ℕ, ◌<◌, max, [], ◌∷◌, ◌++◌, length, get_or, ℤ, vec_items, vec_len, ap, ◌∙◌, arith, length-append, w8, to_z, of_z, rules}
+use Rattle.std.proofs.Common.{◌≡◌, ℕ, ◌<◌, max, [], ◌∷◌, ◌++◌, length, get_or, ℤ, vec_items, ap, ◌∙◌, w8, to_z, of_z, rules}
 use Rattle.std.proofs.lemmas.Int.{to_z-of_z}
 use Rattle.design.specs.declared.price.Price.{Price}
 use Rattle.design.specs.Mark.{bit_of}
 use Rattle.propagation.specs.declared.sides.Sides.{Sides}
 use Rattle.propagation.specs.Masks.{up_bit, down_bit}
 use Rattle.pricing.specs.Tables.{take_side, leave_side}
-use Rattle.design.proofs.OfMarks.{named_up}
-use Rattle.pricing.proofs.Entering.{kept_price}
 use Rattle.pricing.proofs.Tabling.{named_next, ups_next, downs_next, take_next, leave_next}
-use Rattle.pricing.proofs.list.PriceList.append.Goals as goal
+use Rattle.pricing.proofs.list.PriceList.push.Goals as goal
 
 pub invariant_of-self : goal.invariant_of-self
-invariant_of-self g c =
+invariant_of-self c =
     let l = c.args.self.now in
     let ps = vec_items l.entries in
     let qs = vec_items c.push_reserved.new.self in
@@ -23,16 +21,10 @@ invariant_of-self g c =
     let b : c.choice_bit-k.result < length l.leaving = search rules in
     let t : c.sides-take.result.0 ≡ take_side c.args.mark c.args.place = ap (λ (x : ℕ × ℕ). x.0) c.sides-take.ensures ∙ ap (λ (m : ℤ). take_side m c.args.place) f in
     let v : c.sides-take.result.1 ≡ leave_side c.args.mark c.args.place = ap (λ (x : ℕ × ℕ). x.1) c.sides-take.ensures ∙ ap (λ (m : ℤ). leave_side m c.args.place) f in
-    let n = c.requires.fresh in
-    let n64 = named_up l.sizes.choices c.args.mark l.sizes.few_choices n.names in
-    let old : vec_len l.entries ≡ length ps = l.entries.ok.0 in
-    let new : vec_len c.push_reserved.new.self ≡ length qs = c.push_reserved.new.self.ok.0 in
     record {
-      fits = omega (arith, n.fits, old, new, ap length i, length-append ps (p ∷ []));
-      kept = kept_price l.sizes.choices ps qs p i l.kept n.names n.first;
-      named = named_next 64 ps qs p i l.named n64;
-      take_table = take_next ps qs p l.taking c.choice_bit-k.result c.max.result i k a n64 (c.max.ensures ∙ ap (max (get_or l.taking c.choice_bit-k.result 0)) t) l.take_table;
-      leave_table = leave_next ps qs p l.leaving c.choice_bit-k.result c.max-2.result i k b n64 (c.max-2.ensures ∙ ap (max (get_or l.leaving c.choice_bit-k.result 0)) v) l.leave_table;
+      named = named_next 64 ps qs p i l.named c.requires.named;
+      take_table = take_next ps qs p l.taking c.choice_bit-k.result c.max.result i k a c.requires.named (c.max.ensures ∙ ap (max (get_or l.taking c.choice_bit-k.result 0)) t) l.take_table;
+      leave_table = leave_next ps qs p l.leaving c.choice_bit-k.result c.max-2.result i k b c.requires.named (c.max-2.ensures ∙ ap (max (get_or l.leaving c.choice_bit-k.result 0)) v) l.leave_table;
       up_word = ap (λ (z : Sides). z.ups) c.with-self.ensures ∙ ups_next ps qs p l.sides.ups c.of.result.ups i l.up_word (ap (λ (z : Sides). z.ups) c.of.ensures ∙ ap up_bit f);
       down_word = ap (λ (z : Sides). z.downs) c.with-self.ensures ∙ downs_next ps qs p l.sides.downs c.of.result.downs i l.down_word (ap (λ (z : Sides). z.downs) c.of.ensures ∙ ap down_bit f);
     }
