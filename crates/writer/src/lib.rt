@@ -19,6 +19,34 @@ use solver::Solver;
 use std::marker::PhantomData;
 use totalizer::Literal;
 
+// The extra choice "the node costs at least this place", of those past `base`.
+pub fn number_of(base: u16, top: u8, node: usize, place: u8) -> u16
+    requires { (1 ≤ node) × ((node < 128) × (number base top node place < 2 ^ 15)) }
+    ensures { result ≡ number base top node place }
+{
+    base + (node as u16 - 1) * u16::from(top) + u16::from(place)
+}
+
+// What stands for "the node costs at least this place", of prices whose extra choices stand past `base`.
+pub fn literal_of(base: u16, top: u8, prices: &[Price], node: usize, place: u8) -> Literal
+    requires { (1 ≤ node) × ((node < 2 * length prices.now) × ((place ≤ top) × (Small base top (length prices.now)))) }
+    ensures is { result ≡ literal top base prices.now node place }
+    ensures short { Short result }
+{
+    if place == 0 {
+        return Literal::Always;
+    }
+    if node < prices.len() {
+        return Literal::Mark(number_of(base, top, node, place) as i16);
+    }
+    let price = prices[node - prices.len()];
+    if place <= price.place {
+        Literal::Mark(i16::from(price.mark))
+    } else {
+        Literal::Never
+    }
+}
+
 // Appends a clause for which there is room.
 pub fn append<S: Solver>(solver: &mut S, marks: &[i16])
     requires short { length marks.now ≤ 8 }
@@ -70,7 +98,7 @@ impl<'a, C: Scale> Heap<'a, C> {
         ensures is { result ≡ number self.now.base C.Scale.places.top node place }
         ensures small { result < 2 ^ 15 }
     {
-        self.base + (node as u16 - 1) * u16::from(C::TOP) + u16::from(place)
+        number_of(self.base, C::TOP, node, place)
     }
 
     // What stands for "the node costs at least this place".
@@ -80,18 +108,7 @@ impl<'a, C: Scale> Heap<'a, C> {
         ensures is { result ≡ literal C.Scale.places.top self.now.base self.now.prices.now node place }
         ensures short { Short result }
     {
-        if place == 0 {
-            return Literal::Always;
-        }
-        if node < self.prices.len() {
-            return Literal::Mark(self.number(node, place) as i16);
-        }
-        let price = self.prices[node - self.prices.len()];
-        if place <= price.place {
-            Literal::Mark(i16::from(price.mark))
-        } else {
-            Literal::Never
-        }
+        literal_of(self.base, C::TOP, self.prices, node, place)
     }
 
     // The clause for two places of a node's children; none for both at 0.
