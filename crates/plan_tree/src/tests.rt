@@ -30,3 +30,27 @@ fn set_ups_meet_the_store(rt: HostRuntime) -> Result<(), Fail> {
         ],
     )
 }
+
+// A rule that comes after a step stands before the prices' clauses, as one before it: the plan that is
+// shown hangs on their order.
+#[test]
+fn a_late_rule_comes_before_prices(rt: HostRuntime) -> Result<(), Fail> {
+    prints(
+        rt.alloc(),
+        b"\x01\x03\x03\x40\x00\x03\xfe\x02\x04\x02\x03\x04\xfd\x01\x05\x06\
+          \x02\x02\x01\x03\x00\x00\x00\x00\x00\x00\x05\x05\x07\x00\x07\x01",
+        &[
+            "0 ok",
+            "5 ok",
+            "8 ok",
+            "11 ok",
+            "14 point 0 3",
+            "15 ok",
+            "16 ok",
+            "26 point 0 3",
+            "27 point 2 0",
+            "28 plan 0 3 0000000000000003",
+            "30 plan 2 0 0000000000000005",
+        ],
+    )
+}

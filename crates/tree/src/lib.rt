@@ -15,7 +15,7 @@ ghost use Rattle.finder.specs.Finding.{Large};
 ghost use Rattle.tree.specs.Held.{tree_meaning, tree_table, Current, SameSize};
 
 use design::{JudgeFault, SolverFault};
-use finder::{decide_within, held_word, write_book, write_rule};
+use finder::{decide_within, held_word, write_book};
 use judge::{Judge, Sizes, check_sizes};
 use plain::{Plain, Room};
 use scales::Scale;
@@ -143,12 +143,11 @@ impl<A: Scale, B: Scale, S: Solver> Judge for Tree<A, B, S> {
 
     ghost tied = { refl };
 
-    // A rule is appended to what is written.
+    // The clauses of rules come first, and their order decides which plan is found and how fast. So a
+    // rule, too, has the design written anew.
     fn rule(&mut self, marks: &[i8]) -> Result<(), JudgeFault> {
         self.book.rule(marks)?;
-        if self.written {
-            write_rule(&mut self.solver, marks);
-        }
+        self.written = false;
         Ok(())
     }
 
