@@ -125,7 +125,6 @@ impl<'a, S: Search> Solver for Kind<'a, S> {
         Ok(())
     }
 
-    #[tactic(auto, using(design::proofs::OfMarks::all_by))]
     fn decide(&mut self, assumptions: &[i16]) -> Result<bool, SolverFault> {
         let choices = self.choices;
         if !all_named(assumptions, choices) {

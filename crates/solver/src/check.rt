@@ -3,7 +3,8 @@ ghost use Rattle.design.specs.Fault.{refused_or};
 ghost use Rattle.solver.specs.Calls.{making_fault};
 ghost use Rattle.solver.specs.Checks.{clause_check};
 
-use design::{SolverFault, all_named};
+use crate::mark::all_named;
+use design::SolverFault;
 
 // Whether a solver of M choices and clause room K can be made over a store of `long` numbers.
 pub fn check_making(choices: u16, room: usize, long: usize) -> Result<(), SolverFault>
@@ -21,7 +22,6 @@ pub fn check_making(choices: u16, room: usize, long: usize) -> Result<(), Solver
 }
 
 // Whether a clause can be appended where `used` numbers of the clause room are taken.
-#[tactic(auto, using(design::proofs::OfMarks::all_by))]
 pub fn check_clause(
     choices: u16,
     room: usize,

@@ -3,6 +3,7 @@
 #![tactic(auto)]
 
 mod check;
+mod mark;
 
 ghost use Rattle.std.specs.Prelude.{◌≡◌};
 ghost use Rattle.solver.specs.State.{Solving, Kept, cleared};
@@ -10,7 +11,7 @@ ghost use Rattle.solver.specs.Calls.{clause_answer, Appended, Decided, taken_ans
 
 pub use check::{check_clause, check_making};
 use design::SolverFault;
-pub use design::{all_named, is_named};
+pub use mark::{all_named, is_named};
 
 pub trait Solver {
     ghost meaning: { Self → Solving };

@@ -13,7 +13,7 @@ pub use clauses::Clauses;
 use design::SolverFault;
 pub use sizes::Sizes;
 use solver::check_making;
-pub use store::Store;
+pub use store::{Store, marks_at};
 
 // The checking call of a making. It only reads the store, so a refusal leaves it as it was.
 pub fn check_store(choices: u16, room: usize, cells: &[i16]) -> Result<Sizes, SolverFault>

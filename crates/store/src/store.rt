@@ -1,6 +1,6 @@
-ghost use Rattle.std.specs.Prelude.{◌≡◌, ◌+◌, ◌<◌, ◌≤◌, length};
+ghost use Rattle.std.specs.Prelude.{◌≡◌, ◌+◌, ◌<◌, ◌≤◌, length, pos, slice_index_or, unsigned_abs};
 ghost use Rattle.store.specs.Coding.{encode};
-ghost use Rattle.store.specs.Parts.{over};
+ghost use Rattle.store.specs.Parts.{part, over};
 
 // The lent numbers, and how many of them clauses take.
 #[derive(Drop)]
@@ -27,6 +27,17 @@ fn append(cells: &mut [i16], used: usize, marks: &[i16])
     ensures { cells.new ≡ over cells.old used (encode marks.now) }
 {
     write_clause(&mut cells[used..], marks);
+}
+
+// The marks of the clause that begins at a place.
+pub fn marks_at(cells: &[i16], at: usize) -> &[i16]
+    requires here { at < length cells.now }
+    requires whole { at + 1 + unsigned_abs (slice_index_or cells.now at (pos 0)) ≤ length cells.now }
+    ensures { result.now ≡ part cells.now (at + 1) (unsigned_abs (slice_index_or cells.now at (pos 0))) }
+{
+    let from = at + 1;
+    let count = cells[at].unsigned_abs() as usize;
+    &cells[from..from + count]
 }
 
 impl Store<'_> {

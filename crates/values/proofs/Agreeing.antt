@@ -4,6 +4,7 @@ use lib.ListN.{get_or-map}
 use Rattle.std.proofs.lemmas.List.{get_or-set_same, get_or-set_other}
 use Rattle.std.proofs.lemmas.Bool.{and_parts, cases_eq}
 use Rattle.design.specs.Mark.{named, all_are_named, bit_of}
+use Rattle.design.proofs.OfMarks.{bit_below}
 use Rattle.solver.specs.Setting.{setting, truth, meets}
 use Rattle.store.specs.Parts.{is_taken}
 use Rattle.values.specs.declared.State.{State}
@@ -219,3 +220,12 @@ fits_holding b m t = fits_for m (get_or b (bit_of m) false) (sym (truth_sided b 
 
 pub fits_failing : (b : List Bool) (m : ℤ) → truth (setting b) m ≡ false → Fits (value_that_fails m) (get_or b (bit_of m) false)
 fits_failing b m t = fits_against m (get_or b (bit_of m) false) (sym (truth_sided b m) ∙ t)
+
+-- values that make a mark true, in a setting that agrees
+pub mark_for : (v : List ℤ) (b : List Bool) (m : ℤ) → named (length v) m ≡ true → Agrees (set v (bit_of m) (value_that_holds m)) b → truth (setting b) m ≡ true
+mark_for v b m w a =
+    truth_sided b m ∙ to m (get_or b (bit_of m) false) (subst (λ z. Fits z (get_or b (bit_of m) false)) (get_or-set_same v (bit_of m) (value_that_holds m) (pos 0) (bit_below (length v) m w)) (a (bit_of m)))
+  where
+    to : (m : ℤ) (x : Bool) → Fits (value_that_holds m) x → sided m x ≡ true
+    to (pos c) x f = f
+    to (negsuc k) x f = ap not f

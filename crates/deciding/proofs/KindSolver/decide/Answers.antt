@@ -1,5 +1,4 @@
-use Rattle.std.proofs.Common.{◌∙◌, sym, refl, subst}
-use Rattle.design.proofs.OfMarks.{all_by}
+use Rattle.std.proofs.Common.{sym, refl, subst}
 use Rattle.store.specs.Parts.{Stored}
 use Rattle.deciding.specs.Held.{kind_meaning}
 use Rattle.deciding.proofs.Conclusions.{concluded_stored, decided}
@@ -17,4 +16,4 @@ returns g c =
     let s = c.args.self.now in
     let s' = c.decide_by.new.store in
     decided kind_meaning s _ s.store.cells.now s'.cells.now s.store.used s'.used s.choices s.room c.args.assumptions.now c.decide_by.result
-    refl refl c.decide_by.ensures.used (sym (c.if-not-all_named.ensures ∙ all_by s.choices c.args.assumptions.now)) s.stored c.decide_by.ensures.answer
+    refl refl c.decide_by.ensures.used (sym c.if-not-all_named.ensures) s.stored c.decide_by.ensures.answer
