@@ -123,7 +123,7 @@ impl Draft {
     }
 
     // The word is a setting that meets the rules, with costs within the limits and the bounds.
-    pub(crate) fn is_plan<A: Scale, B: Scale>(&self, word: u64, a: u8, b: u8) -> bool {
+    pub fn is_plan<A: Scale, B: Scale>(&self, word: u64, a: u8, b: u8) -> bool {
         let (cost_a, cost_b) = self.costs::<A, B>(word);
         self.admits(word) && cost_a <= a.min(self.limit_a) && cost_b <= b.min(self.limit_b)
     }

@@ -153,7 +153,7 @@ impl<J: Judge> Trial<J> {
     }
 
     // Compares seek with the sweep at every pair of bounds.
-    fn compare_seeks(&mut self, sweep: &Sweep) -> Result<(), Mismatch> {
+    pub fn compare_seeks(&mut self, sweep: &Sweep) -> Result<(), Mismatch> {
         for a in bounds(J::CostA::TOP) {
             self.compare_row(sweep, a)?;
         }
@@ -167,7 +167,7 @@ impl<J: Judge> Trial<J> {
         Ok(())
     }
 
-    fn compare_seek(&mut self, sweep: &Sweep, a: u8, b: u8) -> Result<(), Mismatch> {
+    pub fn compare_seek(&mut self, sweep: &Sweep, a: u8, b: u8) -> Result<(), Mismatch> {
         match self.judge.seek(a, b) {
             None if sweep.has_plan(a, b) => Err(Mismatch::Missed { a, b }),
             None => Ok(()),
@@ -186,7 +186,7 @@ impl<J: Judge> Trial<J> {
     }
 
     // Compares the costs of some random words, high bits and all, with the direct count.
-    pub(crate) fn compare_costs(&self, random: &mut Random) -> Result<(), Mismatch> {
+    pub fn compare_costs(&self, random: &mut Random) -> Result<(), Mismatch> {
         for _ in 0..8u8 {
             let word = random.word();
             let direct = self.draft.costs::<J::CostA, J::CostB>(word);

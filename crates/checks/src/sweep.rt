@@ -66,7 +66,7 @@ fn lesser(one: Option<u8>, other: Option<u8>) -> Option<u8> {
 }
 
 // 2 to the n-th; 0 where that is more than 64 bits.
-fn power_of_two(n: u8) -> u64 {
+pub fn power_of_two(n: u8) -> u64 {
     1u64.checked_shl(u32::from(n)).unwrap_or(0)
 }
 
@@ -81,12 +81,12 @@ fn is_so(word: u64, mark: i8) -> bool {
     (rest % 2 == 1) == (mark > 0)
 }
 
-pub(crate) fn meets(word: u64, rule: &[i8]) -> bool {
+pub fn meets(word: u64, rule: &[i8]) -> bool {
     rule.iter().any(|mark| is_so(word, *mark))
 }
 
 // The cost of a setting, as a place.
-pub(crate) fn cost<S: Scale>(prices: &[Price], word: u64) -> u8 {
+pub fn cost<S: Scale>(prices: &[Price], word: u64) -> u8 {
     let sum = prices.iter().filter(|price| is_so(word, price.mark)).fold(
         S::nothing(),
         |sum, price| S::join(sum, S::from_place(price.place)),
@@ -95,6 +95,6 @@ pub(crate) fn cost<S: Scale>(prices: &[Price], word: u64) -> u8 {
 }
 
 // The word has no bit of a choice above the last.
-pub(crate) fn is_setting(word: u64, choices: u8) -> bool {
+pub fn is_setting(word: u64, choices: u8) -> bool {
     halved(word, choices) == 0
 }
